@@ -1,0 +1,4 @@
+pub mod Filling
+pub mod Inverse
+pub mod Lookup
+pub mod Tables

@@ -1,0 +1,4 @@
+pub mod Characters
+pub mod Coding
+pub mod Pages
+pub mod Tables
