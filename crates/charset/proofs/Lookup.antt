@@ -12,7 +12,7 @@ use Rattle.std.specs.Options.{isSome}
 use Rattle.std.specs.declared.option.Option.{Option}
 use Rattle.std.specs.declared.option.Option.the-variants.{Some, None}
 use Rattle.std.proofs.shelf.Lists.{getD-set-same, getD-set-other, take-more, drop-more}
-use Rattle.std.proofs.shelf.Tests.{eq-eqb, ne-eqb, cases-eq, or-parts}
+use Rattle.std.proofs.shelf.Tests.{eq-eqb, ne-eqb, cases-eq, or-parts, or-left, or-right}
 use Rattle.charset.specs.Coding.{among, lookup, repeat-after, Answers}
 
 -- a key is found exactly where it stands among the keys
@@ -52,3 +52,13 @@ answers-push array ks vs k v h l new all q small =
 -- the search for a repeat, one place on
 pub repeat-step : (xs : List ℕ) (i : ℕ) → i < length xs → repeat-after (take i xs) i (drop i xs) ≡ cond (among (getD xs i 0) (take i xs)) (Some i) (repeat-after (take (i + 1) xs) (i + 1) (drop (i + 1) xs))
 repeat-step xs i h = rw (drop-more xs i 0 h, take-more xs i 0 h, add-one) refl
+
+-- what is found stands among the values
+pub found-value : (ks vs : List ℕ) (q v : ℕ) → lookup ks vs q ≡ Some v → among v vs ≡ true
+found-value [] vs q v h = absurd (let z : _≡_ {A = ℕ} 0 1 = cc in omega arith)
+found-value (k ∷ ks) [] q v h = absurd (let z : _≡_ {A = ℕ} 0 1 = cc in omega arith)
+found-value (k ∷ ks) (y ∷ vs) q v h = go (eqb k q) (found-value ks vs q v) h
+  where
+    go : (b : Bool) → (lookup ks vs q ≡ Some v → among v vs ≡ true) → cond b (Some y) (lookup ks vs q) ≡ Some v → (eqb y v || among v vs) ≡ true
+    go true rest e = or-left (eqb y v) (among v vs) (eq-eqb y v (cc))
+    go false rest e = or-right (eqb y v) (among v vs) (rest e)

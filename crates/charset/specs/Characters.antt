@@ -9,5 +9,5 @@ use Rattle.charset.specs.Coding.{among}
 abbrev pub characters : List ℕ
 characters = codes " 0123456789ABCDEFGHIJKLMNOPQRSTUVWXYZ" ++ (165 ∷ codes ".<(+&*);-/,%_>?:'=\"")
 
-abbrev pub is-character : ℕ → Bool
+unfoldable pub is-character : ℕ → Bool
 is-character b = among b characters

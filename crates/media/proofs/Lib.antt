@@ -1,0 +1,5 @@
+pub mod Appending
+pub mod Scanning
+pub mod Standing
+pub mod Translating
+pub mod Writing

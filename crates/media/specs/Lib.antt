@@ -1,0 +1,6 @@
+pub mod Bytes
+pub mod Frames
+pub mod Images
+pub mod Meaning
+pub mod Translation
+pub mod Volumes
