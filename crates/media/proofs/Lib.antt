@@ -1,4 +1,5 @@
 pub mod Appending
+pub mod Midway
 pub mod Scanning
 pub mod Standing
 pub mod Translating

@@ -1,4 +1,5 @@
 pub mod Bytes
+pub mod Copying
 pub mod Frames
 pub mod Images
 pub mod Meaning
