@@ -64,11 +64,12 @@ module _ {rs rest put put′ : List (List ℕ)} {places places′ : ℕ} (m : Mi
           let gone : places′ ≡ 0 = eqb-true places′ 0 k in
           let long : length (m .taken) ≡ places = omega (arith, m .used) in
           let here : rs ≡ m .taken ++ (r ∷ left) = m .split ∙ ap (λ l. m .taken ++ l) is in
-          let here′ : rs ≡ (m .taken ++ (r ∷ [])) ++ left = here ∙ sym (append-assoc (m .taken) (r ∷ []) left) in
-          (omega (arith, ap length here, length-append (m .taken) (r ∷ left)),
+          let here′ : rs ≡ (m .taken ++ (r ∷ [])) ++ left = here ∙ sym (append-assoc (m .taken) (r ∷ []) left) in (
+            omega (arith, ap length here, length-append (m .taken) (r ∷ left)),
             sym (ap (drop (places + 1)) here′ ∙ drop-at (m .taken ++ (r ∷ [])) left (places + 1) (omega (arith, length-append (m .taken) (r ∷ [])))),
             m .so-far ∙ ap (λ l. put ++ l) (sym (ap (take places) here ∙ take-at (m .taken) (r ∷ left) places long)),
-            gone)
+            gone,
+          )
 
   -- a refused put leaves the output as it was
   pub full : (e : Ending) (r : List ℕ) (left : List (List ℕ)) (x : PutRefusal) (put″ : List (List ℕ)) (places″ : ℕ) → rest ≡ r ∷ left → is-record r ≡ true → Err x ≡ putting r places′ → put″ ≡ put′ → places″ ≡ places′ → Copies rs e put places left put″ places″ (Err x)

@@ -9,6 +9,8 @@ use charset::CodeTable;
 
 mod putting;
 
+pub use putting::ImageOutput;
+
 /// An output over the caller's bytes: the image of a volume that is being written.
 #[derive(Drop)]
 pub struct Image<'a> {

@@ -6,6 +6,8 @@ use charset::CodeTable;
 
 mod drawing;
 
+pub use drawing::VolumeCarrier;
+
 /// A carrier over the bytes of one volume, which it borrows and does not copy.
 #[derive(Drop)]
 pub struct Volume<'a> {
