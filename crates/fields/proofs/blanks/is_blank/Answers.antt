@@ -1,0 +1,28 @@
+use Prim.Native.Nat.{_+_}
+use mathlib.Core.Path.{_≡_, sym, _∙_}
+use mathlib.Core.Bool.{_&&_}
+use native.Mathlib.Omega.{arith}
+use lib.Dec.{eqb}
+use lib.ListN.{getD, drop}
+use Rattle.std.proofs.shelf.Lists.{at-drop-more, at-drop-all}
+use Rattle.std.proofs.shelf.Tests.{eq-eqb, ne-eqb, and-left}
+use Rattle.fields.specs.Blank.{blank}
+use Rattle.fields.proofs.blanks.is_blank.Needs as need
+
+pub returns-then-byte-ne32 : need.returns-then-byte-ne32
+returns-then-byte-ne32 c =
+    let field = c .args .field .now in
+    let i = c .loop-byte .byte-index in
+    let step : blank (drop i field) ≡ (eqb (getD field i 0) 32 && blank (drop (i + 1) field)) = at-drop-more blank field i 0 (omega arith) in
+    sym (and-left _ _ (ne-eqb (getD field i 0) 32 (c .if-byte-ne32 .taken))) ∙ (sym step ∙ c .loop-byte .inv)
+
+pub loop-byte-again : need.loop-byte-again
+loop-byte-again c =
+    let field = c .args .field .now in
+    let i = c .loop-byte .byte-index in
+    let step : blank (drop i field) ≡ (eqb (getD field i 0) 32 && blank (drop (i + 1) field)) = at-drop-more blank field i 0 (omega arith) in
+    let space = eq-eqb (getD field i 0) 32 (c .if-byte-ne32 .left) in
+    sym (rw space at step) ∙ c .loop-byte .inv
+
+pub returns : need.returns
+returns c = sym (at-drop-all blank (c .args .field .now) (c .loop-byte .byte-index) (omega arith)) ∙ c .loop-byte .inv
