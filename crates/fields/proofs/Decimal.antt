@@ -14,7 +14,7 @@ use Rattle.std.specs.declared.option.Option.{Option}
 use Rattle.std.specs.declared.option.Option.the-variants.{Some, None}
 use Rattle.std.proofs.shelf.Lists.{append-nil, append-assoc, length-push, drop-more, drop-all}
 use Rattle.std.proofs.shelf.Tests.{leb-true, le-leb, lt-ltb, le-ltb, ltb-true, and-parts, and-from, and-right, cases-bool, cases-lt, both-ways, cond-true, cond-false}
-use Rattle.fields.specs.Decimal.{is-digit, all-digits, value-from, value, number-from, number, fits, decimal}
+use Rattle.fields.specs.Decimal.{is-digit, all-digits, value-from, value, number-from, number, fits, decimal, WrittenBack}
 
 -- a digit, as a number between two others
 pub digit-bounds : (b : ℕ) → is-digit b ≡ true → (48 ≤ b) × (b ≤ 57)
@@ -152,6 +152,10 @@ pub decimal-number : (bs : List ℕ) (n : ℕ) → number bs ≡ Some n → deci
 decimal-number bs n h =
     let p = number-some bs n h in
     ap (decimal (length bs)) (sym (p .1)) ∙ decimal-value bs (p .0)
+
+pub written-back : (bs : List ℕ) (o : Option ℕ) → o ≡ number bs → WrittenBack bs o
+written-back bs None h = tt
+written-back bs (Some n) h = decimal-number bs n (sym h)
 
 pub number-below : (bs : List ℕ) (n : ℕ) → number bs ≡ Some n → n < 10 ^ length bs
 number-below bs n h =

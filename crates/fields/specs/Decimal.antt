@@ -1,8 +1,10 @@
 -- Numbers in decimal digits, the most significant first. Assumes nothing.
 use Prim.Native.Nat.{ℕ, zero, suc, _+_, _-_, _*_, _/_, _%_, _^_}
+use mathlib.Core.Path.{_≡_}
 use mathlib.Core.Bool.{Bool, true, cond, _&&_}
 use mathlib.Core.List.{List, [], _∷_, _++_}
 use lib.Dec.{leb, ltb}
+use lib.ListN.{length}
 use Rattle.std.specs.declared.option.Option.{Option}
 use Rattle.std.specs.declared.option.Option.the-variants.{Some, None}
 
@@ -36,3 +38,8 @@ fits w n = ltb n (10 ^ w)
 abbrev pub decimal : ℕ → ℕ → List ℕ
 decimal zero n = []
 decimal (suc w) n = decimal w (n / 10) ++ ((48 + n % 10) ∷ [])
+
+-- a number that was read is written as it stood
+abbrev pub WrittenBack : List ℕ → Option ℕ → Type 0
+WrittenBack bs None = Unit {0}
+WrittenBack bs (Some n) = decimal (length bs) n ≡ bs

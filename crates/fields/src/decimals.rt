@@ -1,11 +1,13 @@
 ghost use mathlib.Core.Path.{_≡_};
-ghost use mathlib.Core.Bool.{cond};
+ghost use mathlib.Core.Bool.{true, cond};
 ghost use lib.ListN.{length};
-ghost use Rattle.fields.specs.Decimal.{fits, decimal, number as number-in};
+ghost use Rattle.std.specs.declared.option.Option.the-variants.{Some};
+ghost use Rattle.fields.specs.Decimal.{fits, decimal, number as number-in, WrittenBack};
 
 /// The number that a field spells in decimal digits, unless a byte is no digit or the number passes 64 bits.
 pub fn read_number(field: &[u8]) -> Option<u64>
-    ensures { λ r. ⌜ r ≡ number-in (now (field .entry)) ⌝ }
+    ensures value { λ r. ⌜ r ≡ number-in (now (field .entry)) ⌝ }
+    ensures back { λ r. ⌜ WrittenBack (now (field .entry)) r ⌝ }
 {
     let mut value: u64 = 0;
     for byte in field {
@@ -22,6 +24,7 @@ pub fn read_number(field: &[u8]) -> Option<u64>
 pub fn write_number(field: &mut [u8], number: u64) -> bool
     ensures answer { λ r. ⌜ r ≡ fits (length (now (field .entry))) number ⌝ }
     ensures field { λ r. ⌜ now (field .exit) ≡ cond (fits (length (now (field .entry))) number) (decimal (length (now (field .entry))) number) (now (field .entry)) ⌝ }
+    ensures back { λ r. ⌜ (r ≡ true → number-in (now (field .exit)) ≡ Some number) ⌝ }
 {
     if !has_room(field.len(), number) {
         return false;

@@ -9,19 +9,19 @@ use Rattle.std.proofs.shelf.Tests.{eq-eqb, ne-eqb, and-left}
 use Rattle.fields.specs.Blank.{blank}
 use Rattle.fields.proofs.blanks.is_blank.Needs as need
 
-pub returns-then-byte-ne32 : need.returns-then-byte-ne32
-returns-then-byte-ne32 c =
+pub returns-then-byte-ne-SPACE : need.returns-then-byte-ne-SPACE
+returns-then-byte-ne-SPACE c =
     let field = c .args .field .now in
     let i = c .loop-byte .byte-index in
     let step : blank (drop i field) ≡ (eqb (getD field i 0) 32 && blank (drop (i + 1) field)) = at-drop-more blank field i 0 (omega arith) in
-    sym (and-left _ _ (ne-eqb (getD field i 0) 32 (c .if-byte-ne32 .taken))) ∙ (sym step ∙ c .loop-byte .inv)
+    sym (and-left _ _ (ne-eqb (getD field i 0) 32 (c .if-byte-ne-SPACE .taken))) ∙ (sym step ∙ c .loop-byte .inv)
 
 pub loop-byte-again : need.loop-byte-again
 loop-byte-again c =
     let field = c .args .field .now in
     let i = c .loop-byte .byte-index in
     let step : blank (drop i field) ≡ (eqb (getD field i 0) 32 && blank (drop (i + 1) field)) = at-drop-more blank field i 0 (omega arith) in
-    let space = eq-eqb (getD field i 0) 32 (c .if-byte-ne32 .left) in
+    let space = eq-eqb (getD field i 0) 32 (c .if-byte-ne-SPACE .left) in
     sym (rw space at step) ∙ c .loop-byte .inv
 
 pub returns : need.returns
