@@ -1,10 +1,10 @@
 -- Decimal fields of every width: what is written reads as it was, and what reads is written as it stood.
 -- Assumes nothing.
 use Prim.Native.Nat.{ℕ, zero, suc, _+_, _-_, _*_, _/_, _%_, _^_, _<_, _≤_}
-use mathlib.Core.Path.{_≡_, refl, sym, ap, subst, _∙_}
+use mathlib.Core.Path.{_≡_, refl, sym, ap, _∙_}
 use mathlib.Core.Bool.{Bool, true, false, cond, _&&_}
 use mathlib.Core.List.{List, [], _∷_, _++_}
-use mathlib.Core.Logic.{_⊎_, inl, inr, ⊎-elim}
+use mathlib.Core.Logic.{⊎-elim}
 use native.Mathlib.Nat.{add-zero, zero-add, mul-assoc, pow-suc, pow-succ', pow-le-pow-right, mul-le-mul-right}
 use native.Mathlib.Numerals.{add-one}
 use native.Mathlib.Omega.{arith}
@@ -13,10 +13,10 @@ use lib.ListN.{length, getD, drop}
 use Rattle.std.specs.declared.option.Option.{Option}
 use Rattle.std.specs.declared.option.Option.the-variants.{Some, None}
 use Rattle.std.proofs.shelf.Lists.{append-nil, append-assoc, length-push, drop-more, drop-all}
-use Rattle.std.proofs.shelf.Tests.{leb-true, le-leb, lt-ltb, le-ltb, ltb-true, and-parts, and-from, and-right, cases-bool, cases-lt, both-ways, cond-true, cond-false}
+use Rattle.std.proofs.shelf.Tests.{leb-true, le-leb, lt-ltb, le-ltb, ltb-true, and-parts, and-from, and-right, cases-lt, cond-true, cond-false}
 use Rattle.fields.specs.Decimal.{is-digit, all-digits, value-from, value, number-from, number, fits, decimal, WrittenBack}
 
--- a digit, as a number between two others
+-- a digit is a byte from 48 to 57
 pub digit-bounds : (b : ℕ) → is-digit b ≡ true → (48 ≤ b) × (b ≤ 57)
 digit-bounds b h =
     let p = and-parts (leb 48 b) (leb b 57) h in
@@ -52,7 +52,7 @@ value-push : (n : ℕ) (bs : List ℕ) (b : ℕ) → value-from n (bs ++ (b ∷ 
 value-push n [] b = refl
 value-push n (c ∷ bs) b = value-push (10 * n + (c - 48)) bs b
 
--- the last digit takes the last place
+-- the last digit takes one place
 pub fits-step : (w n : ℕ) → fits (suc w) n ≡ fits w (n / 10)
 fits-step w n =
     ⊎-elim
@@ -86,7 +86,7 @@ decimal-value bs h = rw zero-add at (decimal-value-from 0 0 bs h)
 
 -- the value of a field has room in it
 value-from-below : (n : ℕ) (bs : List ℕ) → all-digits bs ≡ true → value-from n bs < (n + 1) * 10 ^ length bs
-value-from-below n [] h = omega (arith)
+value-from-below n [] h = omega arith
 value-from-below n (b ∷ bs) h =
     let p = and-parts (is-digit b) (all-digits bs) h in
     let d = digit-bounds b (p .0) in
@@ -130,7 +130,7 @@ number-short bs short = go (all-digits bs) refl
         let room : 10 ^ length bs ≤ 10 ^ 19 = pow-le-pow-right (omega arith) short in
         cond-true (ltb (value bs) (2 ^ 64)) _ _ (lt-ltb (value bs) (2 ^ 64) (omega (arith, value-below bs h)))
 
--- what a field reads as
+-- a field that reads as a number
 pub number-some : (bs : List ℕ) (n : ℕ) → number bs ≡ Some n → (all-digits bs ≡ true) × (value bs ≡ n) × (n < 2 ^ 64)
 number-some bs n h = go (all-digits bs) (ltb (value bs) (2 ^ 64)) refl refl h
   where

@@ -23,10 +23,11 @@ value-from n (b ∷ bs) = value-from (10 * n + (b - 48)) bs
 abbrev pub value : List ℕ → ℕ
 value bs = value-from 0 bs
 
--- the number that a field spells, where it is all digits and passes no 64 bits
+-- the number of such digits, where a field holds nothing else and 64 bits hold the number
 abbrev pub number-from : ℕ → List ℕ → Option ℕ
 number-from n bs = cond (all-digits bs && ltb (value-from n bs) (2 ^ 64)) (Some (value-from n bs)) None
 
+-- the number that a field spells
 abbrev pub number : List ℕ → Option ℕ
 number bs = number-from 0 bs
 

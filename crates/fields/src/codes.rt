@@ -4,8 +4,8 @@ ghost use Rattle.fields.specs.Codes.{among, currencies, common-concepts};
 // The currencies of accounts, by their three digits.
 const CURRENCIES: [u64; 11] = [36, 124, 208, 392, 554, 578, 752, 756, 826, 840, 978];
 
-// The common concepts of movements, which all banks share.
-const CONCEPTS: [u64; 19] = [
+// The concepts of movements that all banks share.
+const COMMON_CONCEPTS: [u64; 19] = [
     1,
     2,
     3,
@@ -38,7 +38,7 @@ pub fn is_currency(code: u64) -> bool
 pub fn is_common_concept(code: u64) -> bool
     ensures { λ r. ⌜ r ≡ among code common-concepts ⌝ }
 {
-    is_listed(&CONCEPTS, code)
+    is_listed(&COMMON_CONCEPTS, code)
 }
 
 fn is_listed(list: &[u64], code: u64) -> bool
