@@ -23,7 +23,7 @@ pub fn read_number(field: &[u8]) -> Option<u64>
 /// leaves the field as it was.
 pub fn write_number(field: &mut [u8], number: u64) -> bool
     ensures answer { λ r. ⌜ r ≡ fits (length (now (field .entry))) number ⌝ }
-    ensures field { λ r. ⌜ now (field .exit) ≡ cond (fits (length (now (field .entry))) number) (decimal (length (now (field .entry))) number) (now (field .entry)) ⌝ }
+    ensures written { λ r. ⌜ now (field .exit) ≡ cond (fits (length (now (field .entry))) number) (decimal (length (now (field .entry))) number) (now (field .entry)) ⌝ }
     ensures back { λ r. ⌜ (r ≡ true → number-in (now (field .exit)) ≡ Some number) ⌝ }
 {
     if !has_room(field.len(), number) {

@@ -30,9 +30,9 @@ returns c =
     let width = length (c .args .field .now) in
     let n = c .args .number in
     let room = sym (c .if-not-has-room .ensures tt) in
-    let written : c .loop-place .field ≡ decimal width n = search needs in
+    let same : c .loop-place .field ≡ decimal width n = search needs in
     record {
       answer = sym room;
-      field = written ∙ sym (cond-true (fits width n) _ _ room);
-      back = λ _. ap number written ∙ number-decimal width n (ltb-true n (10 ^ width) room) (c .fits .number .fits);
+      written = same ∙ sym (cond-true (fits width n) _ _ room);
+      back = λ _. ap number same ∙ number-decimal width n (ltb-true n (10 ^ width) room) (c .fits .number .fits);
     }
