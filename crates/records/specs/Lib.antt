@@ -1,0 +1,5 @@
+pub mod Balances
+pub mod Checks
+pub mod Numbers
+pub mod Rules
+pub mod Values
