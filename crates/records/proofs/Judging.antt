@@ -18,12 +18,12 @@ use Rattle.records.specs.declared.refusals.FieldRefusal.{FieldRefusal}
 use Rattle.records.specs.declared.refusals.Question.{Question}
 use Rattle.records.specs.declared.refusals.Question.the-variants.{Value}
 
-first : Option FieldRefusal → Option FieldRefusal → Option FieldRefusal
+unfoldable pub first : Option FieldRefusal → Option FieldRefusal → Option FieldRefusal
 first None o = o
 first (Some e) o = Some e
 
 -- checks that all hold leave the answer to those after them, and one that fails gives it
-both : (us vs : List Check) (r : List ℕ) → judged (us ++ vs) r ≡ first (judged us r) (judged vs r)
+pub both : (us vs : List Check) (r : List ℕ) → judged (us ++ vs) r ≡ first (judged us r) (judged vs r)
 unfolding judged first
 both [] vs r = refl
 both (u ∷ us) vs r = go (u .holds r) (both us vs r)
