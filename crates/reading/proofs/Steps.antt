@@ -11,11 +11,11 @@ use Rattle.std.specs.declared.option.Option.the-variants.{Some, None}
 use Rattle.std.proofs.shelf.Tests.{eq-eqb, le-leb, lt-leb, ltb-true, leb-true, and-parts}
 use Rattle.fields.specs.declared.keys.Key.{Key}
 use Rattle.fields.specs.declared.keys.Key.the-variants.{Debit, Credit}
-use Rattle.records.specs.Balances.{turned, side, counts-in-limit, stays-in-limit}
+use Rattle.values.specs.Balances.{turned, side, counts-in-limit, stays-in-limit}
 use Rattle.records.specs.Checks.{judged}
 use Rattle.records.specs.Values.{number-at, key-at}
-use Rattle.records.specs.declared.values.Movement.{Movement as MovementNumbers}
-use Rattle.records.specs.declared.values.OpenAccount.{OpenAccount}
+use Rattle.values.specs.declared.parts.Movement.{Movement as MovementNumbers}
+use Rattle.values.specs.declared.parts.OpenAccount.{OpenAccount}
 use Rattle.records.proofs.Holding.{movement-limits}
 use Rattle.reading.specs.Kinds.{last-number}
 use Rattle.reading.specs.Limits.{texts-of}

@@ -9,14 +9,14 @@ use lib.ListN.{length, getD}
 use Rattle.std.specs.declared.option.Option.{Option}
 use Rattle.std.specs.declared.option.Option.the-variants.{Some, None}
 use Rattle.charset.specs.Characters.{is-character}
-use Rattle.records.specs.Balances.{turned}
+use Rattle.values.specs.Balances.{turned}
 use Rattle.records.specs.Checks.{Check, columns, judged}
 use Rattle.records.specs.Rules.{account-checks, movement-checks, text-checks, equivalent-checks, account-end-checks, file-end-checks}
 use Rattle.records.specs.Values.{number-at, account-in, movement-in, equivalent-in, account-end-in}
 use Rattle.records.specs.declared.refusals.FieldRefusal.{FieldRefusal}
-use Rattle.records.specs.declared.values.AccountHead.{AccountHead}
-use Rattle.records.specs.declared.values.OpenAccount.{OpenAccount}
-use Rattle.records.specs.declared.values.Turnover.{Turnover}
+use Rattle.values.specs.declared.parts.AccountHead.{AccountHead}
+use Rattle.values.specs.declared.parts.OpenAccount.{OpenAccount}
+use Rattle.values.specs.declared.parts.Turnover.{Turnover}
 use Rattle.reading.specs.Kinds.{kind-of, last-number}
 use Rattle.reading.specs.Limits.{texts-of}
 use Rattle.reading.specs.Phases.{next}

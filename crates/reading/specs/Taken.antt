@@ -12,12 +12,12 @@ use Rattle.std.specs.declared.result.Result.the-variants.{Ok, Err}
 use Rattle.fields.specs.declared.dates.Date.{Date}
 use Rattle.fields.specs.declared.keys.Key.the-variants.{Debit}
 use Rattle.fields.specs.declared.modalities.Modality.the-variants.{First}
-use Rattle.records.specs.Balances.{turned, counts-in-limit, stays-in-limit}
+use Rattle.values.specs.Balances.{turned, counts-in-limit, stays-in-limit}
 use Rattle.records.specs.Checks.{columns}
 use Rattle.records.specs.Values.{number-at, key-at, account-in, movement-in, equivalent-in, account-end-in}
-use Rattle.records.specs.declared.values.AccountHead.{AccountHead}
-use Rattle.records.specs.declared.values.OpenAccount.{OpenAccount}
-use Rattle.records.specs.declared.values.Turnover.{Turnover}
+use Rattle.values.specs.declared.parts.AccountHead.{AccountHead}
+use Rattle.values.specs.declared.parts.OpenAccount.{OpenAccount}
+use Rattle.values.specs.declared.parts.Turnover.{Turnover}
 use Rattle.reading.specs.Offers.{kind-in, cause-of}
 use Rattle.reading.specs.Phases.{next}
 use Rattle.reading.specs.declared.entries.Entry.{Entry}

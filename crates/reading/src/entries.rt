@@ -1,7 +1,7 @@
-use records::values::AccountEnd;
-use records::values::AccountHead;
-use records::values::Equivalent;
-use records::values::Movement;
+use values::AccountEnd;
+use values::AccountHead;
+use values::Equivalent;
+use values::Movement;
 
 /// What a record that is taken says: its kind and numbers, with its name, texts or second reference as parts of the
 /// offered record.

@@ -1,7 +1,7 @@
 ghost use Prim.Native.Nat.{_≤_};
 ghost use Rattle.reading.specs.Limits.{texts-of};
 use crate::phases::Phase;
-use records::values::OpenAccount;
+use values::OpenAccount;
 
 mod offering;
 

@@ -6,14 +6,14 @@ use mathlib.Core.List.{List, _++_}
 use native.Mathlib.Omega.{arith}
 use Rattle.std.specs.declared.option.Option.{Option}
 use Rattle.std.specs.declared.option.Option.the-variants.{Some, None}
-use Rattle.records.specs.Balances.{counts-in-limit, stays-in-limit}
+use Rattle.values.specs.Balances.{counts-in-limit, stays-in-limit}
 use Rattle.records.specs.Checks.{Check, judged, tested, digits, spaces, date, common-concept, key, limited}
 use Rattle.records.specs.Rules.{origin-checks, operation-checks, amount-checks, movement-checks}
 use Rattle.records.specs.Values.{key-at, number-at}
 use Rattle.records.specs.declared.refusals.FieldRefusal.{FieldRefusal}
 use Rattle.records.specs.declared.refusals.Question.{Question}
 use Rattle.records.specs.declared.refusals.Question.the-variants.{Limit}
-use Rattle.records.specs.declared.values.OpenAccount.{OpenAccount}
+use Rattle.values.specs.declared.parts.OpenAccount.{OpenAccount}
 use Rattle.records.proofs.Judging.{first, both}
 
 -- checks that all hold, each by itself

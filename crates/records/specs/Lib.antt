@@ -1,4 +1,3 @@
-pub mod Balances
 pub mod Checks
 pub mod Numbers
 pub mod Rules

@@ -11,14 +11,14 @@ use Rattle.fields.specs.Decimal.{value}
 use Rattle.fields.specs.declared.keys.Key.{Key}
 use Rattle.fields.specs.declared.modalities.Modality.{Modality}
 use Rattle.fields.specs.declared.modalities.Modality.the-variants.{First, Second, Third}
-use Rattle.records.specs.Balances.{counts-in-limit, stays-in-limit, key-fits, final-amount}
+use Rattle.values.specs.Balances.{counts-in-limit, stays-in-limit, key-fits, final-amount}
 use Rattle.records.specs.Checks.{Check, columns, asked, digits, spaces, date, currency, common-concept, key, modality, reference, agreeing, limited}
 use Rattle.records.specs.Values.{number-at, key-at}
 use Rattle.records.specs.declared.refusals.Question.the-variants.{Value}
-use Rattle.records.specs.declared.values.AccountHead.{AccountHead}
-use Rattle.records.specs.declared.values.OpenAccount.{OpenAccount}
-use Rattle.records.specs.declared.values.Period.{Period}
-use Rattle.records.specs.declared.values.Turnover.{Turnover}
+use Rattle.values.specs.declared.parts.AccountHead.{AccountHead}
+use Rattle.values.specs.declared.parts.OpenAccount.{OpenAccount}
+use Rattle.values.specs.declared.parts.Period.{Period}
+use Rattle.values.specs.declared.parts.Turnover.{Turnover}
 
 -- a number that must be n
 abbrev pub same : ℕ → ℕ → ℕ → List Check

@@ -12,14 +12,14 @@ use Rattle.fields.specs.declared.keys.Key.the-variants.{Debit, Credit}
 use Rattle.fields.specs.declared.modalities.Modality.{Modality}
 use Rattle.fields.specs.declared.modalities.Modality.the-variants.{First, Second, Third}
 use Rattle.records.specs.Checks.{columns}
-use Rattle.records.specs.declared.values.AccountEnd.{AccountEnd}
-use Rattle.records.specs.declared.values.AccountHead.{AccountHead}
-use Rattle.records.specs.declared.values.AccountNumber.{AccountNumber}
-use Rattle.records.specs.declared.values.Balance.{Balance}
-use Rattle.records.specs.declared.values.Equivalent.{Equivalent}
-use Rattle.records.specs.declared.values.Movement.{Movement}
-use Rattle.records.specs.declared.values.Period.{Period}
-use Rattle.records.specs.declared.values.Turnover.{Turnover}
+use Rattle.values.specs.declared.parts.AccountEnd.{AccountEnd}
+use Rattle.values.specs.declared.parts.AccountHead.{AccountHead}
+use Rattle.values.specs.declared.parts.AccountNumber.{AccountNumber}
+use Rattle.values.specs.declared.parts.Balance.{Balance}
+use Rattle.values.specs.declared.parts.Equivalent.{Equivalent}
+use Rattle.values.specs.declared.parts.Movement.{Movement}
+use Rattle.values.specs.declared.parts.Period.{Period}
+use Rattle.values.specs.declared.parts.Turnover.{Turnover}
 
 abbrev pub number-at : ℕ → ℕ → List ℕ → ℕ
 number-at a b r = value (columns a b r)

@@ -12,11 +12,11 @@ use crate::columns::same_number;
 use crate::columns::spaces;
 use crate::refusals::FieldRefusal;
 use crate::refusals::Question;
-use crate::values::AccountEnd;
-use crate::values::AccountHead;
-use crate::values::Balance;
-use crate::values::OpenAccount;
-use crate::values::Turnover;
+use values::AccountEnd;
+use values::AccountHead;
+use values::Balance;
+use values::OpenAccount;
+use values::Turnover;
 
 // The account end names its account.
 fn same_account(offered: &[u8; 80], head: &AccountHead) -> Result<(), FieldRefusal>

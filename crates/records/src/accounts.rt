@@ -14,10 +14,10 @@ use crate::columns::short_digits;
 use crate::columns::spaces;
 use crate::refusals::FieldRefusal;
 use crate::refusals::Question;
-use crate::values::AccountHead;
-use crate::values::AccountNumber;
-use crate::values::Balance;
-use crate::values::Period;
+use values::AccountHead;
+use values::AccountNumber;
+use values::Balance;
+use values::Period;
 
 fn account_number(offered: &[u8; 80]) -> Result<AccountNumber, FieldRefusal>
     ensures refusal { λ r. ⌜ errPart r ≡ judged number-checks (now (offered .entry)) ⌝ }

@@ -10,8 +10,8 @@ use crate::columns::digits;
 use crate::columns::spaces;
 use crate::refusals::FieldRefusal;
 use crate::refusals::Question;
-use crate::values::AccountHead;
-use crate::values::Equivalent;
+use values::AccountHead;
+use values::Equivalent;
 
 /// Reads an equivalent record of an account.
 pub fn read_equivalent(offered: &[u8; 80], head: &AccountHead) -> Result<Equivalent, FieldRefusal>

@@ -2,14 +2,12 @@
 // The rules of each record stand in specs/Rules.antt, field by field from the left; the answer is the first that fails.
 pub mod account_ends;
 pub mod accounts;
-pub mod balances;
 pub mod columns;
 pub mod equivalents;
 pub mod file_ends;
 pub mod movements;
 pub mod refusals;
 pub mod texts;
-pub mod values;
 
 pub use refusals::FieldRefusal;
 pub use refusals::Question;

@@ -14,10 +14,10 @@ use crate::columns::short_digits;
 use crate::columns::spaces;
 use crate::refusals::FieldRefusal;
 use crate::refusals::Question;
-use crate::values::Balance;
-use crate::values::Movement;
-use crate::values::OpenAccount;
-use crate::values::Period;
+use values::Balance;
+use values::Movement;
+use values::OpenAccount;
+use values::Period;
 use fields::Date;
 use fields::Modality;
 

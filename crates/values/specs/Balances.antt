@@ -4,8 +4,8 @@ use mathlib.Core.Bool.{Bool, _&&_}
 use lib.Dec.{leb, ltb}
 use Rattle.fields.specs.declared.keys.Key.{Key}
 use Rattle.fields.specs.declared.keys.Key.the-variants.{Debit, Credit}
-use Rattle.records.specs.declared.values.OpenAccount.{OpenAccount}
-use Rattle.records.specs.declared.values.Turnover.{Turnover}
+use Rattle.values.specs.declared.parts.OpenAccount.{OpenAccount}
+use Rattle.values.specs.declared.parts.Turnover.{Turnover}
 
 -- the most that fourteen digits spell
 abbrev pub most : ℕ

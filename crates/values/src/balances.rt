@@ -1,8 +1,8 @@
 ghost use mathlib.Core.Path.{_≡_};
 ghost use Prim.Native.Nat.{_^_, _<_};
-ghost use Rattle.records.specs.Balances.{side, owed-to, owed-by, debit-of, credit-of, counts-in-limit, stays-in-limit, key-fits, final-amount};
-use crate::values::OpenAccount;
-use crate::values::Turnover;
+ghost use Rattle.values.specs.Balances.{side, owed-to, owed-by, debit-of, credit-of, counts-in-limit, stays-in-limit, key-fits, final-amount};
+use crate::parts::OpenAccount;
+use crate::parts::Turnover;
 use fields::Key;
 
 /// The most that fourteen digits spell: no total is above it, and no balance further from zero.

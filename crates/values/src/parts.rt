@@ -1,15 +1,9 @@
 use fields::Date;
 use fields::Key;
 use fields::Modality;
-use fields::dates::DateDebug;
-use fields::dates::DatePartialEq;
-use fields::keys::KeyDebug;
-use fields::keys::KeyPartialEq;
-use fields::modalities::ModalityDebug;
-use fields::modalities::ModalityPartialEq;
 
 /// What names an account.
-#[derive(Clone, Copy, PartialEq, Eq, Debug)]
+#[derive(Clone, Copy)]
 pub struct AccountNumber {
     pub entity: u32,
     pub office: u32,
@@ -17,28 +11,28 @@ pub struct AccountNumber {
 }
 
 /// The days that a statement speaks of.
-#[derive(Clone, Copy, PartialEq, Eq, Debug)]
+#[derive(Clone, Copy)]
 pub struct Period {
     pub first: Date,
     pub last: Date,
 }
 
 /// A balance in hundredths; debit is negative.
-#[derive(Clone, Copy, PartialEq, Eq, Debug)]
+#[derive(Clone, Copy)]
 pub struct Balance {
     pub key: Key,
     pub amount: u64,
 }
 
 /// How many movements an account has on one side, and their total.
-#[derive(Clone, Copy, PartialEq, Eq, Debug)]
+#[derive(Clone, Copy)]
 pub struct Turnover {
     pub count: u32,
     pub total: u64,
 }
 
 /// The numbers of an account record.
-#[derive(Clone, Copy, PartialEq, Eq, Debug)]
+#[derive(Clone, Copy)]
 pub struct AccountHead {
     pub number: AccountNumber,
     pub period: Period,
@@ -48,7 +42,7 @@ pub struct AccountHead {
 }
 
 /// An account whose end has not come: its head, and its movements so far.
-#[derive(Clone, Copy, PartialEq, Eq, Debug)]
+#[derive(Clone, Copy)]
 pub struct OpenAccount {
     pub head: AccountHead,
     pub debits: Turnover,
@@ -56,7 +50,7 @@ pub struct OpenAccount {
 }
 
 /// The numbers of a movement record.
-#[derive(Clone, Copy, PartialEq, Eq, Debug)]
+#[derive(Clone, Copy)]
 pub struct Movement {
     pub origin: Option<u32>,
     pub operation: Date,
@@ -70,14 +64,14 @@ pub struct Movement {
 }
 
 /// The amount of a movement in the currency that it came from.
-#[derive(Clone, Copy, PartialEq, Eq, Debug)]
+#[derive(Clone, Copy)]
 pub struct Equivalent {
     pub currency: u32,
     pub amount: u64,
 }
 
 /// The numbers of an account end.
-#[derive(Clone, Copy, PartialEq, Eq, Debug)]
+#[derive(Clone, Copy)]
 pub struct AccountEnd {
     pub number: AccountNumber,
     pub debits: Turnover,
