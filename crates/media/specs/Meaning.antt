@@ -29,6 +29,11 @@ abbrev pub Draws : List (List ℕ) → Ending → List ℕ → List (List ℕ) �
 Draws [] e into left after d = (d ≡ Ended e) × (left ≡ []) × (after ≡ into)
 Draws (r ∷ rs) e into left after d = (d ≡ Record) × (left ≡ rs) × (after ≡ r) × (is-record r ≡ true)
 
+-- a carrier that has no record left stays as it is
+abbrev pub Stays : {S : Type 0} → S → S → Drawn → Type 0
+Stays c c′ Record = Unit {0}
+Stays c c′ (Ended e) = c′ ≡ c
+
 -- volumes are counted up to 65,535
 abbrev pub capped : ℕ → ℕ → ℕ
 capped a b = min (a + b) 65535

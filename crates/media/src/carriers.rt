@@ -2,7 +2,7 @@ ghost use mathlib.Core.Path.{_≡_};
 ghost use mathlib.Core.List.{List};
 ghost use Prim.Native.Nat.{ℕ, _≤_};
 ghost use Rattle.media.specs.declared.carriers.Ending.{Ending};
-ghost use Rattle.media.specs.Meaning.{Draws};
+ghost use Rattle.media.specs.Meaning.{Draws, Stays};
 use crate::framing::RECORD_LENGTH;
 
 /// What is wrong with a carrier, and where.
@@ -51,6 +51,7 @@ pub trait Carrier {
     /// and neither those bytes nor the carrier change.
     fn draw(&mut self, into: &mut [u8; RECORD_LENGTH]) -> Drawn
         ensures drawn { λ r. ⌜ Draws (records (now (self .entry))) (ending (now (self .entry))) (now (into .entry)) (records (now (self .exit))) (now (into .exit)) r ⌝ }
+        ensures kept { λ r. ⌜ Stays (now (self .entry)) (now (self .exit)) r ⌝ }
         ensures ending { λ _. ⌜ ending (now (self .exit)) ≡ ending (now (self .entry)) ⌝ }
         ensures volumes { λ _. ⌜ volumes (now (self .exit)) ≡ volumes (now (self .entry)) ⌝ };
 }

@@ -13,7 +13,7 @@ impl CodeTableRefusal {
         }
     }
 
-    /// The place, counted from 0, of the byte that came before.
+    /// The place, counted from 0, of the byte that equals an earlier one.
     pub fn place(&self) -> Option<usize>
         ensures { λ r. ⌜ r ≡ refusal-place (now (self .entry)) ⌝ }
     {

@@ -15,9 +15,9 @@ pub returns-in-Ok : need.returns-in-Ok
 returns-in-Ok c =
     let v = c .args .self .now in
     let d = drawn-record (v .framing) (v .table) (v .bytes .now) (v .position) (c .stride .result) (c .in-Ok .characters) (c .args .into .now) (c .stride .ensures) (sym (c .in-Ok .ensures tt)) in
-    record { drawn = d .0; ending = d .1; volumes = refl }
+    record { drawn = d .0; kept = tt; ending = d .1; volumes = refl }
 
 pub returns-in-Err : need.returns-in-Err
 returns-in-Err c =
     let v = c .args .self .now in
-    record { drawn = drawn-none (v .framing) (v .table) (rest-of v) (v .position) (c .in-Err .ending) (c .args .into .now) (sym (c .in-Err .ensures tt)); ending = refl; volumes = refl }
+    record { drawn = drawn-none (v .framing) (v .table) (rest-of v) (v .position) (c .in-Err .ending) (c .args .into .now) (sym (c .in-Err .ensures tt)); kept = refl; ending = refl; volumes = refl }
