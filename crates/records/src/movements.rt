@@ -14,12 +14,12 @@ use crate::columns::short_digits;
 use crate::columns::spaces;
 use crate::refusals::FieldRefusal;
 use crate::refusals::Question;
+use fields::Date;
+use fields::Modality;
 use values::Balance;
 use values::Movement;
 use values::OpenAccount;
 use values::Period;
-use fields::Date;
-use fields::Modality;
 
 // The office that a movement came from is told in modalities 2 and 3.
 fn origin(offered: &[u8; 80], modality: Modality) -> Result<Option<u32>, FieldRefusal>
