@@ -1,0 +1,4 @@
+pub mod Building
+pub mod Layouts
+pub mod Parts
+pub mod Records
