@@ -1,23 +1,19 @@
--- What the refusals of a reading tell. Assumes nothing.
+-- What the refusals of a reading tell: number, record number, column. Assumes nothing.
 use Prim.Native.Nat.{ℕ}
 use Rattle.records.specs.Numbers.{question-number}
 use Rattle.reading.specs.declared.refusals.Cause.{Cause}
 use Rattle.reading.specs.declared.refusals.Cause.the-variants.{Length, Character, Code, Order, RecordLimit, Field, Unfinished}
+use Rattle.reading.specs.declared.refusals.Refusal.{Refusal}
+use Rattle.reading.specs.declared.refusals.Told.{Told}
 
-abbrev pub cause-number : Cause → ℕ
-cause-number Length = 1
-cause-number (Character column) = 2
-cause-number Code = 3
-cause-number Order = 4
-cause-number RecordLimit = 8
-cause-number (Field refusal) = question-number (refusal .question)
-cause-number Unfinished = 9
+abbrev pub telling : ℕ → Cause → Told
+telling n Length = record { number = 1; «record» = n; column = 0 }
+telling n (Character c) = record { number = 2; «record» = n; column = c }
+telling n Code = record { number = 3; «record» = n; column = 1 }
+telling n Order = record { number = 4; «record» = n; column = 1 }
+telling n RecordLimit = record { number = 8; «record» = n; column = 1 }
+telling n (Field refusal) = record { number = question-number (refusal .question); «record» = n; column = refusal .column }
+telling n Unfinished = record { number = 9; «record» = n; column = 0 }
 
-abbrev pub cause-column : Cause → ℕ
-cause-column Length = 0
-cause-column (Character column) = column
-cause-column Code = 1
-cause-column Order = 1
-cause-column RecordLimit = 1
-cause-column (Field refusal) = refusal .column
-cause-column Unfinished = 0
+abbrev pub told : Refusal → Told
+told r = telling (r .«record») (r .cause)

@@ -13,3 +13,4 @@ pub use phases::Phase;
 pub use readings::Reading;
 pub use refusals::Cause;
 pub use refusals::Refusal;
+pub use refusals::Told;

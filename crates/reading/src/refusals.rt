@@ -1,5 +1,5 @@
 ghost use mathlib.Core.Path.{_≡_};
-ghost use Rattle.reading.specs.Numbers.{cause-number, cause-column};
+ghost use Rattle.reading.specs.Numbers.{told};
 ghost use Rattle.reading.specs.declared.refusals.Cause.the-variants.{Field};
 use records::FieldRefusal;
 use records::refusals::FieldRefusalDebug;
@@ -31,6 +31,14 @@ pub struct Refusal {
     pub record: u32,
 }
 
+/// What a refusal tells; the column is 0 where it tells none.
+#[derive(Clone, Copy, PartialEq, Eq, Debug)]
+pub struct Told {
+    pub number: u16,
+    pub record: u32,
+    pub column: u8,
+}
+
 pub impl From<FieldRefusal> for Cause as CauseFromField {
     ghost converts = { λ refusal cause. cause ≡ Field refusal };
 
@@ -40,30 +48,23 @@ pub impl From<FieldRefusal> for Cause as CauseFromField {
 }
 
 impl Refusal {
-    /// The number of this refusal.
-    pub fn number(self) -> u16
-        ensures { λ r. ⌜ r ≡ cause-number (self .cause) ⌝ }
+    /// What this refusal tells: each cause has its number, and its column or none.
+    pub fn told(self) -> Told
+        ensures { λ r. ⌜ r ≡ told self ⌝ }
     {
-        match self.cause {
-            Cause::Length => 1,
-            Cause::Character(_) => 2,
-            Cause::Code => 3,
-            Cause::Order => 4,
-            Cause::RecordLimit => 8,
-            Cause::Field(refusal) => refusal.question.number(),
-            Cause::Unfinished => 9,
-        }
-    }
-
-    /// The column that it tells, counted from 1; 0 where it tells none.
-    pub fn column(self) -> u8
-        ensures { λ r. ⌜ r ≡ cause-column (self .cause) ⌝ }
-    {
-        match self.cause {
-            Cause::Length | Cause::Unfinished => 0,
-            Cause::Character(column) => column,
-            Cause::Code | Cause::Order | Cause::RecordLimit => 1,
-            Cause::Field(refusal) => refusal.column,
+        let (number, column) = match self.cause {
+            Cause::Length => (1, 0),
+            Cause::Character(column) => (2, column),
+            Cause::Code => (3, 1),
+            Cause::Order => (4, 1),
+            Cause::RecordLimit => (8, 1),
+            Cause::Field(refusal) => (refusal.question.number(), refusal.column),
+            Cause::Unfinished => (9, 0),
+        };
+        Told {
+            number,
+            record: self.record,
+            column,
         }
     }
 }

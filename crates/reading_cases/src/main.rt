@@ -5,6 +5,7 @@ mod limits;
 use reading::Entry;
 use reading::Reading;
 use reading::Refusal;
+use reading::Told;
 use std::io;
 
 fn main(rt: LibcRuntime) -> io::Result<()> {
@@ -47,8 +48,10 @@ fn name(entry: &Entry) -> &'static str {
 }
 
 fn show_refusal(rt: &LibcRuntime, refusal: Refusal) -> io::Result<()> {
-    let number = refusal.number();
-    let record = refusal.record;
-    let column = refusal.column();
+    let Told {
+        number,
+        record,
+        column,
+    } = refusal.told();
     println!(rt, "refused {number}, record {record}, column {column}")
 }

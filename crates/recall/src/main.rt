@@ -12,6 +12,7 @@ use media::Volume;
 use media::VolumeCarrier;
 use media::copy;
 use reading::Refusal;
+use reading::Told;
 use std::error::AnyError;
 use std::fs;
 use survey::Kinds;
@@ -93,9 +94,11 @@ fn tell_stop(rt: &LibcRuntime, stop: Stop) -> Result<(), AnyError> {
 }
 
 fn tell_refusal(rt: &LibcRuntime, refusal: Refusal) -> Result<(), AnyError> {
-    let number = refusal.number();
-    let record = refusal.record;
-    let column = refusal.column();
+    let Told {
+        number,
+        record,
+        column,
+    } = refusal.told();
     println!(rt, "refusal {number} at record {record}, column {column}")?;
     Ok(())
 }
