@@ -20,9 +20,6 @@ use fields::is_currency;
 use fields::is_reference;
 use fields::read_number;
 
-/// A record's characters.
-pub type Characters = [u8; 80];
-
 // The refusal of a field that fails a question.
 pub(crate) fn refused(question: Question, column: usize) -> FieldRefusal
     requires { ⌜ column ≤ 80 ⌝ }
