@@ -1,8 +1,8 @@
 -- A code table that is filled place by place. Assumes nothing.
 use Prim.Native.Nat.{ℕ, _+_, _<_, _≤_}
-use mathlib.Core.Path.{_≡_, refl, sym, ap, subst, _∙_}
+use mathlib.Core.Path.{_≡_, refl, sym, ap, _∙_}
 use mathlib.Core.Bool.{Bool, true, false, cond}
-use mathlib.Core.List.{List, [], _∷_, _++_}
+use mathlib.Core.List.{List}
 use native.Mathlib.Omega.{arith}
 use lib.ListN.{length, getD, set, take, drop, replicate, length-set}
 use Rattle.std.specs.Options.{isSome}
@@ -10,7 +10,7 @@ use Rattle.std.specs.declared.option.Option.{Option}
 use Rattle.std.specs.declared.option.Option.the-variants.{Some, None}
 use Rattle.std.proofs.shelf.Lists.{take-more, take-all, drop-all, getD-replicate, length-take-le}
 use Rattle.std.proofs.shelf.Tests.{cond-true, cond-false}
-use Rattle.charset.specs.Coding.{among, lookup, repeat-after, first-repeat, Answers}
+use Rattle.charset.specs.Coding.{among, repeat-after, first-repeat, Answers}
 use Rattle.charset.proofs.Lookup.{found-among, answers-push, repeat-step}
 
 -- both arrays answer for the first i bytes and characters, and none of them comes twice

@@ -1,7 +1,7 @@
 -- The 57 characters in their fixed order, each as its byte in code page 850. Assumes nothing.
 use Prim.Native.Nat.{ℕ}
 use mathlib.Core.Bool.{Bool}
-use mathlib.Core.List.{List, [], _∷_, _++_}
+use mathlib.Core.List.{List, _∷_, _++_}
 use lib.Chars.{codes}
 use Rattle.charset.specs.Coding.{among}
 

@@ -1,17 +1,16 @@
 -- A carrier that is copied in part. Assumes nothing.
-use Prim.Native.Nat.{ℕ, _+_, _-_, _<_}
+use Prim.Native.Nat.{ℕ, _+_, _-_}
 use mathlib.Core.Path.{_≡_, refl, sym, ap, ap₂, subst, _∙_}
 use mathlib.Core.Bool.{Bool, true, false, cond}
 use mathlib.Core.List.{List, [], _∷_, _++_, append-assoc, append-nil}
 use native.Mathlib.Omega.{arith}
 use lib.Dec.{eqb}
 use lib.ListN.{length, take, drop, length-append}
-use Rattle.std.specs.declared.result.Result.{Result}
 use Rattle.std.specs.declared.result.Result.the-variants.{Ok, Err}
 use Rattle.std.proofs.shelf.Lists.{take-at, drop-at}
-use Rattle.std.proofs.shelf.Tests.{both-ways, eqb-true, cond-true}
+use Rattle.std.proofs.shelf.Tests.{eqb-true, cond-true}
 use Rattle.media.specs.Copying.{Copies}
-use Rattle.media.specs.Meaning.{is-record, Draws, putting, Puts}
+use Rattle.media.specs.Meaning.{is-record, Draws, putting}
 use Rattle.media.specs.declared.carriers.Ending.{Ending}
 use Rattle.media.specs.declared.carriers.Drawn.the-variants.{Record, Ended}
 use Rattle.media.specs.declared.outputs.PutRefusal.{PutRefusal}

@@ -1,8 +1,8 @@
 -- The records of a volume, one place on, and what each of them is. Assumes nothing.
-use Prim.Native.Nat.{ℕ, zero, suc, _+_, _-_, _<_, _≤_}
-use mathlib.Core.Path.{_≡_, refl, sym, ap, subst, _∙_}
+use Prim.Native.Nat.{ℕ, zero, suc, _+_, _-_, _≤_}
+use mathlib.Core.Path.{_≡_, refl, ap, subst, _∙_}
 use mathlib.Core.Bool.{Bool, true, false, cond, _&&_}
-use mathlib.Core.List.{List, [], _∷_, _++_}
+use mathlib.Core.List.{List, [], _∷_}
 use native.Mathlib.Omega.{arith}
 use lib.Dec.{eqb, ltb}
 use lib.ListN.{length, take, drop, length-drop, length-take, length-map}
@@ -10,10 +10,9 @@ use Rattle.std.specs.shelf.Text.{sameBytes}
 use Rattle.std.specs.Options.{isSome, valueOr}
 use Rattle.std.specs.declared.option.Option.{Option}
 use Rattle.std.specs.declared.option.Option.the-variants.{Some, None}
-use Rattle.std.specs.declared.result.Result.{Result}
 use Rattle.std.specs.declared.result.Result.the-variants.{Ok, Err}
 use Rattle.std.proofs.shelf.Lists.{drop-drop}
-use Rattle.std.proofs.shelf.Tests.{eq-eqb, ltb-false, ltb-true, and-from, cases-bool}
+use Rattle.std.proofs.shelf.Tests.{eq-eqb, ltb-false, and-from}
 use Rattle.charset.specs.Characters.{is-character}
 use Rattle.charset.specs.Tables.{decoded}
 use Rattle.charset.specs.declared.code_table.CodeTable.{CodeTable}

@@ -1,27 +1,22 @@
 -- What stands at a byte place, question by question. Assumes nothing.
-use Prim.Native.Nat.{ℕ, suc, _+_, _-_, _<_, _≤_}
-use mathlib.Core.Path.{_≡_, refl, sym, ap, subst, _∙_}
+use Prim.Native.Nat.{ℕ, _+_, _-_, _≤_}
+use mathlib.Core.Path.{_≡_, _∙_}
 use mathlib.Core.Bool.{true, cond}
-use mathlib.Core.List.{List, [], _∷_, _++_}
+use mathlib.Core.List.{List}
 use native.Mathlib.Omega.{arith}
-use lib.Dec.{eqb, ltb}
 use lib.ListN.{length, take, drop}
 use Rattle.std.specs.shelf.Text.{sameBytes}
-use Rattle.std.specs.Options.{isSome}
-use Rattle.std.specs.declared.option.Option.{Option}
-use Rattle.std.specs.declared.option.Option.the-variants.{Some, None}
-use Rattle.std.specs.declared.result.Result.{Result}
+use Rattle.std.specs.declared.option.Option.the-variants.{None}
 use Rattle.std.specs.declared.result.Result.the-variants.{Ok, Err}
-use Rattle.std.proofs.shelf.Tests.{eq-eqb, ne-eqb, lt-ltb, le-ltb}
+use Rattle.std.proofs.shelf.Tests.{ne-eqb, le-ltb}
 use Rattle.charset.specs.Tables.{decoded}
 use Rattle.charset.specs.declared.code_table.CodeTable.{CodeTable}
 use Rattle.media.specs.Bytes.{told, standing, read-all}
 use Rattle.media.specs.Translation.{translated, first-without}
 use Rattle.media.specs.Frames.{line-end, stride}
 use Rattle.media.specs.declared.framing.Framing.{Framing}
-use Rattle.media.specs.declared.carriers.Ending.{Ending}
-use Rattle.media.specs.declared.carriers.Ending.the-variants.{Clean, Broken}
-use Rattle.media.specs.declared.volumes.VolumeFault.the-variants.{Frame, Character}
+use Rattle.media.specs.declared.carriers.Ending.the-variants.{Broken}
+use Rattle.media.specs.declared.volumes.VolumeFault.the-variants.{Frame}
 
 module _ (f : Framing) (t : CodeTable) (rest : List ℕ) (p : ℕ) where
   -- the questions that remain where the bytes are enough

@@ -1,6 +1,6 @@
 -- A record that is encoded and written. Assumes nothing.
 use Prim.Native.Nat.{ℕ, suc, _+_, _-_, _<_, _≤_}
-use mathlib.Core.Path.{_≡_, refl, sym, ap, ap₂, subst, _∙_}
+use mathlib.Core.Path.{_≡_, refl, sym, ap, ap₂, _∙_}
 use mathlib.Core.Bool.{Bool, true, false, cond, not, _&&_}
 use mathlib.Core.List.{List, [], _∷_, _++_, append-assoc}
 use native.Mathlib.Nat.{add-assoc, add-zero}
@@ -11,7 +11,7 @@ use Rattle.std.specs.Options.{isSome, valueOr}
 use Rattle.std.specs.declared.option.Option.{Option}
 use Rattle.std.specs.declared.option.Option.the-variants.{Some, None}
 use Rattle.std.proofs.shelf.Lists.{drop-drop, drop-more, drop-at, take-at, take-more, length-take-le, set-append-right}
-use Rattle.std.proofs.shelf.Tests.{and-from, and-left, and-right, and-parts, eq-eqb, ne-eqb, not-true, not-false}
+use Rattle.std.proofs.shelf.Tests.{and-from, and-right, and-parts, eq-eqb, not-true, not-false}
 use Rattle.charset.specs.Characters.{is-character}
 use Rattle.charset.specs.Tables.{decoded, encoded}
 use Rattle.charset.specs.declared.code_table.CodeTable.{CodeTable}

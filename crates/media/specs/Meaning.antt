@@ -1,14 +1,13 @@
 -- What carriers and outputs mean. Assumes nothing.
 use Prim.Native.Nat.{ℕ, _+_, min}
 use mathlib.Core.Path.{_≡_}
-use mathlib.Core.Bool.{Bool, true, false, cond, _&&_}
+use mathlib.Core.Bool.{Bool, true, cond, _&&_}
 use mathlib.Core.List.{List, [], _∷_, _++_}
 use lib.Dec.{eqb}
 use lib.ListN.{length}
 use Rattle.std.specs.declared.result.Result.{Result}
 use Rattle.std.specs.declared.result.Result.the-variants.{Ok, Err}
 use Rattle.charset.specs.Characters.{is-character}
-use Rattle.media.specs.declared.carriers.Fault.{Fault}
 use Rattle.media.specs.declared.carriers.Ending.{Ending}
 use Rattle.media.specs.declared.carriers.Ending.the-variants.{Clean, Broken}
 use Rattle.media.specs.declared.carriers.Drawn.{Drawn}

@@ -4,16 +4,15 @@ use mathlib.Core.Path.{_≡_, refl, sym, ap, subst, _∙_}
 use mathlib.Core.Bool.{Bool, true, false, cond}
 use mathlib.Core.List.{List}
 use native.Mathlib.Omega.{arith}
-use lib.Dec.{eqb, leb, ltb}
+use lib.Dec.{leb, ltb}
 use lib.ListN.{length}
 use Rattle.std.specs.declared.option.Option.{Option}
 use Rattle.std.specs.declared.option.Option.the-variants.{Some, None}
 use Rattle.std.proofs.shelf.Tests.{eq-eqb, le-leb, lt-leb, ltb-true, leb-true, and-parts}
 use Rattle.fields.specs.declared.keys.Key.{Key}
 use Rattle.fields.specs.declared.keys.Key.the-variants.{Debit, Credit}
-use Rattle.values.specs.Balances.{turned, side, counts-in-limit, stays-in-limit}
+use Rattle.values.specs.Balances.{turned, counts-in-limit, stays-in-limit}
 use Rattle.records.specs.Checks.{judged}
-use Rattle.records.specs.Values.{number-at, key-at}
 use Rattle.values.specs.declared.parts.Movement.{Movement as MovementNumbers}
 use Rattle.values.specs.declared.parts.OpenAccount.{OpenAccount}
 use Rattle.records.proofs.Holding.{movement-limits}
@@ -28,7 +27,6 @@ use Rattle.reading.specs.declared.kinds.Kind.{Kind}
 use Rattle.reading.specs.declared.kinds.Kind.the-variants.{Account, Movement, Text, Equivalent, AccountEnd, FileEnd}
 use Rattle.reading.specs.declared.phases.Phase.{Phase}
 use Rattle.reading.specs.declared.phases.Phase.the-variants.{Start, Between, Opened, Texts, Converted, Ended}
-use Rattle.reading.specs.declared.refusals.Cause.{Cause}
 use Rattle.reading.specs.declared.refusals.Cause.the-variants.{RecordLimit}
 
 -- of 80 characters whose kind may follow, what is left to ask

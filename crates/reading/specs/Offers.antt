@@ -1,32 +1,25 @@
 -- What is answered to an offer: the questions in their order. Assumes nothing.
 use Prim.Native.Nat.{ℕ, suc, _+_}
-use mathlib.Core.Path.{_≡_}
 use mathlib.Core.Bool.{cond}
 use mathlib.Core.List.{List, [], _∷_}
-use denote.Ref.{now}
 use lib.Dec.{eqb, leb}
 use lib.ListN.{length, getD}
 use Rattle.std.specs.declared.option.Option.{Option}
 use Rattle.std.specs.declared.option.Option.the-variants.{Some, None}
 use Rattle.charset.specs.Characters.{is-character}
-use Rattle.values.specs.Balances.{turned}
-use Rattle.records.specs.Checks.{Check, columns, judged}
+use Rattle.records.specs.Checks.{Check, judged}
 use Rattle.records.specs.Rules.{account-checks, movement-checks, text-checks, equivalent-checks, account-end-checks, file-end-checks}
-use Rattle.records.specs.Values.{number-at, account-in, movement-in, equivalent-in, account-end-in}
 use Rattle.records.specs.declared.refusals.FieldRefusal.{FieldRefusal}
-use Rattle.values.specs.declared.parts.AccountHead.{AccountHead}
 use Rattle.values.specs.declared.parts.OpenAccount.{OpenAccount}
-use Rattle.values.specs.declared.parts.Turnover.{Turnover}
 use Rattle.reading.specs.Kinds.{kind-of, last-number}
 use Rattle.reading.specs.Limits.{texts-of}
 use Rattle.reading.specs.Phases.{next}
-use Rattle.reading.specs.declared.entries.Entry.{Entry}
 use Rattle.reading.specs.declared.entries.Entry.the-variants as entry
 use Rattle.reading.specs.declared.kinds.Kind.{Kind}
 use Rattle.reading.specs.declared.kinds.Kind.the-variants.{Account, Movement, Text, Equivalent, AccountEnd, FileEnd}
 use Rattle.reading.specs.declared.phases.Phase.{Phase}
 use Rattle.reading.specs.declared.refusals.Cause.{Cause}
-use Rattle.reading.specs.declared.refusals.Cause.the-variants.{Length, Character, Code, Order, RecordLimit, Field, Unfinished}
+use Rattle.reading.specs.declared.refusals.Cause.the-variants.{Length, Character, Code, Order, RecordLimit, Field}
 
 -- the index of the first byte that is no character, counted from i
 abbrev pub first-bad : List ℕ → ℕ → Option ℕ

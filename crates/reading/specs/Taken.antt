@@ -6,10 +6,9 @@ use mathlib.Core.List.{List}
 use denote.Ref.{now}
 use Rattle.std.specs.Options.{mapped}
 use Rattle.std.specs.declared.option.Option.{Option}
-use Rattle.std.specs.declared.option.Option.the-variants.{Some, None}
+use Rattle.std.specs.declared.option.Option.the-variants.{Some}
 use Rattle.std.specs.declared.result.Result.{Result}
 use Rattle.std.specs.declared.result.Result.the-variants.{Ok, Err}
-use Rattle.fields.specs.declared.dates.Date.{Date}
 use Rattle.fields.specs.declared.keys.Key.the-variants.{Debit}
 use Rattle.fields.specs.declared.modalities.Modality.the-variants.{First}
 use Rattle.values.specs.Balances.{turned, counts-in-limit, stays-in-limit}
@@ -17,7 +16,6 @@ use Rattle.records.specs.Checks.{columns}
 use Rattle.records.specs.Values.{number-at, key-at, account-in, movement-in, equivalent-in, account-end-in}
 use Rattle.values.specs.declared.parts.AccountHead.{AccountHead}
 use Rattle.values.specs.declared.parts.OpenAccount.{OpenAccount}
-use Rattle.values.specs.declared.parts.Turnover.{Turnover}
 use Rattle.reading.specs.Offers.{kind-in, cause-of}
 use Rattle.reading.specs.Phases.{next}
 use Rattle.reading.specs.declared.entries.Entry.{Entry}
@@ -27,7 +25,6 @@ use Rattle.reading.specs.declared.kinds.Kind.the-variants.{Account, Movement, 
 use Rattle.reading.specs.declared.phases.Phase.{Phase}
 use Rattle.reading.specs.declared.phases.Phase.the-variants.{Start, Between, Opened, Texts, Converted, Ended}
 use Rattle.reading.specs.declared.readings.Reading.{Reading}
-use Rattle.reading.specs.declared.refusals.Cause.{Cause}
 use Rattle.reading.specs.declared.refusals.Cause.the-variants.{Unfinished}
 use Rattle.reading.specs.declared.refusals.Refusal.{Refusal}
 

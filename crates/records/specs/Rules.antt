@@ -2,13 +2,12 @@
 -- A field of any characters is not asked anything. Assumes nothing.
 use Prim.Native.Nat.{ℕ, suc, _+_, _-_}
 use mathlib.Core.Bool.{Bool, not, _&&_}
-use mathlib.Core.List.{List, [], _++_}
-use lib.Dec.{eqb, leb, ltb}
+use mathlib.Core.List.{List, _++_}
+use lib.Dec.{eqb, leb}
 use lib.ListN.{replicate}
 use Rattle.std.specs.shelf.Text.{sameBytes}
 use Rattle.fields.specs.Calendar.{not-before}
 use Rattle.fields.specs.Decimal.{value}
-use Rattle.fields.specs.declared.keys.Key.{Key}
 use Rattle.fields.specs.declared.modalities.Modality.{Modality}
 use Rattle.fields.specs.declared.modalities.Modality.the-variants.{First, Second, Third}
 use Rattle.values.specs.Balances.{counts-in-limit, stays-in-limit, key-fits, final-amount}

@@ -15,11 +15,9 @@ use Rattle.records.specs.Checks.{columns}
 use Rattle.values.specs.declared.parts.AccountEnd.{AccountEnd}
 use Rattle.values.specs.declared.parts.AccountHead.{AccountHead}
 use Rattle.values.specs.declared.parts.AccountNumber.{AccountNumber}
-use Rattle.values.specs.declared.parts.Balance.{Balance}
 use Rattle.values.specs.declared.parts.Equivalent.{Equivalent}
 use Rattle.values.specs.declared.parts.Movement.{Movement}
 use Rattle.values.specs.declared.parts.Period.{Period}
-use Rattle.values.specs.declared.parts.Turnover.{Turnover}
 
 abbrev pub number-at : ℕ → ℕ → List ℕ → ℕ
 number-at a b r = value (columns a b r)

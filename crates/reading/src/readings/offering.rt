@@ -1,5 +1,6 @@
 ghost use mathlib.Core.Path.{_≡_};
 ghost use mathlib.Core.Bool.{true};
+ghost use Prim.Native.Nat.{_+_};
 ghost use Rattle.std.specs.Results.{errPart};
 ghost use Rattle.std.specs.Vec.{made};
 ghost use Rattle.values.specs.Balances.{counts-in-limit, stays-in-limit, turned as turned-by};
@@ -174,6 +175,13 @@ impl Reading {
         Ok(entry)
     }
 
+    // The number of the record that comes next.
+    fn next_number(&self) -> u32
+        ensures { λ r. ⌜ r ≡ now (self .entry) .taken + 1 ⌝ }
+    {
+        1 + self.taken
+    }
+
     /// A reading that has taken nothing.
     pub fn new() -> Reading
         ensures { λ r. ⌜ New r ⌝ }
@@ -195,7 +203,7 @@ impl Reading {
             Ok(entry) => Ok(entry),
             Err(cause) => Err(Refusal {
                 cause,
-                record: self.taken + 1,
+                record: self.next_number(),
             }),
         }
     }
@@ -208,7 +216,7 @@ impl Reading {
             Phase::Ended => Ok(()),
             _ => Err(Refusal {
                 cause: Cause::Unfinished,
-                record: self.taken + 1,
+                record: self.next_number(),
             }),
         }
     }

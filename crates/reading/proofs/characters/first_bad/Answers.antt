@@ -1,9 +1,6 @@
-use mathlib.Core.Path.{_≡_, refl, sym, ap, _∙_}
-use mathlib.Core.Bool.{Bool, true, false, not}
+use mathlib.Core.Path.{refl, sym, ap, _∙_}
 use native.Mathlib.Numerals.{add-one}
-use Rattle.charset.specs.Characters.{is-character}
 use Rattle.std.proofs.shelf.Lists.{drop-more, drop-all}
-use Rattle.std.proofs.shelf.Tests.{not-true, not-false}
 use Rattle.reading.specs.Offers.{first-bad}
 use Rattle.reading.proofs.characters.first_bad.Needs as need
 

@@ -1,11 +1,10 @@
 use Prim.Native.Nat.{_<_}
-use mathlib.Core.Path.{_≡_, refl, sym, ap, _∙_}
+use mathlib.Core.Path.{_≡_, refl, sym, ap}
 use native.Mathlib.Omega.{arith}
 use borrow.Author.Needs.{needs}
 use lib.ListN.{length, getD}
 use Rattle.charset.specs.Tables.{repeated}
 use Rattle.charset.specs.Characters.{characters}
-use Rattle.std.specs.declared.option.Option.the-variants.{Some}
 use Rattle.charset.proofs.code_table.CodeTable.of_bytes.Needs as need
 use Rattle.charset.proofs.Filling.{none, more, came-before, all}
 

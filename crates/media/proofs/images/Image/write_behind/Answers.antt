@@ -1,11 +1,10 @@
-use Prim.Native.Nat.{_+_, _≤_}
-use mathlib.Core.Path.{_≡_, refl, sym, ap, subst, _∙_}
-use mathlib.Core.Bool.{true}
+use Prim.Native.Nat.{_+_}
+use mathlib.Core.Path.{refl, ap, subst, _∙_}
 use native.Mathlib.Omega.{arith}
-use lib.ListN.{length, getD, set, take, length-set}
+use lib.ListN.{getD, set, take, length-set}
 use Rattle.std.proofs.shelf.Lists.{take-all, take-set-le}
 use Rattle.media.specs.Bytes.{reads-clean}
-use Rattle.media.specs.Images.{Behind, bytes-after}
+use Rattle.media.specs.Images.{Behind}
 use Rattle.media.proofs.Writing.{part-none, part-more}
 use Rattle.media.proofs.images.Image.write_behind.Needs as need
 

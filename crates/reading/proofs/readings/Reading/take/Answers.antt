@@ -1,6 +1,4 @@
-use Prim.Native.Nat.{ℕ, _+_, _<_, _≤_}
 use mathlib.Core.Path.{_≡_, refl, sym, ap, subst, _∙_}
-use mathlib.Core.List.{List}
 use native.Mathlib.Omega.{arith}
 use lib.ListN.{length}
 use Rattle.std.specs.Results.{errPart}
@@ -9,7 +7,7 @@ use Rattle.std.proofs.shelf.Results.{err-from-errBy}
 use Rattle.records.specs.Checks.{judged}
 use Rattle.reading.specs.Kinds.{last-number}
 use Rattle.reading.specs.Limits.{texts-of}
-use Rattle.reading.specs.Offers.{first-bad, kind-in, checks, field-cause, cause-of}
+use Rattle.reading.specs.Offers.{first-bad, kind-in, checks, field-cause}
 use Rattle.reading.specs.Phases.{next}
 use Rattle.reading.specs.Taken.{InLimits, kind-told, Tells}
 use Rattle.reading.proofs.Steps.{Limits, past-limit, by-fields, numbered, few, in-limits, account-is, with-limits}

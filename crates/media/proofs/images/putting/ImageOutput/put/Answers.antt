@@ -1,13 +1,11 @@
-use Prim.Native.Nat.{_+_, _≤_}
+use Prim.Native.Nat.{_+_}
 use mathlib.Core.Path.{_≡_, refl, sym, ap, _∙_}
-use mathlib.Core.Bool.{true}
 use native.Mathlib.Omega.{arith}
 use denote.Ref.{now}
 use lib.ListN.{length}
 use Rattle.std.proofs.shelf.Tests.{ne-eqb}
 use Rattle.media.specs.Frames.{stride}
 use Rattle.media.specs.Images.{framed, bytes-after, places-left}
-use Rattle.media.specs.Meaning.{is-record}
 use Rattle.media.proofs.Writing.{part-length}
 use Rattle.media.proofs.Appending.{Put, room, text-long, wrote, put}
 use Rattle.media.proofs.images.putting.ImageOutput.put.Needs as need
