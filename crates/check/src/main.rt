@@ -1,4 +1,6 @@
 // Checks the statement on standard input, lines in page 850, and prints one line.
+#![tactic(auto)]
+
 use checking::check;
 use checking::checks::MOST_BYTES;
 use rows::accounts::UNUSED_ACCOUNT;

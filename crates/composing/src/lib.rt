@@ -1,5 +1,7 @@
 // Composing the six records of a statement from their values: each number in the digits of its field, each text as
 // it is. The fields of each record stand in specs/Layouts.antt, from the left.
+#![tactic(auto)]
+
 pub mod account_ends;
 pub mod accounts;
 pub(crate) mod composer;

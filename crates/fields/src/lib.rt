@@ -1,4 +1,6 @@
 // The fields of a record: decimal numbers, blanks, dates, keys, modalities, code lists, references.
+#![tactic(auto)]
+
 pub mod blanks;
 pub mod codes;
 pub mod dates;

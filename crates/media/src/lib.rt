@@ -1,5 +1,7 @@
 // The media that holdings come on and go to: carriers, which give records, and outputs, which take them.
 // What a carrier or an output means is said by the ghost members of its trait; over bytes, the bytes fix it.
+#![tactic(auto)]
+
 pub mod carriers;
 pub mod copying;
 pub mod framing;

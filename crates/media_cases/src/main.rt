@@ -1,4 +1,6 @@
 // Cases of code tables, carriers and outputs: prints what each gives, to be compared.
+#![tactic(auto)]
+
 mod joins;
 mod outputs;
 mod tables;

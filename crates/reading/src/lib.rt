@@ -1,5 +1,7 @@
 // The reading of a statement: records are offered one after the other, and each is taken or refused.
 // What a reading answers is defined in specs/Offers.antt, question by question.
+#![tactic(auto)]
+
 pub mod characters;
 pub mod entries;
 pub mod kinds;

@@ -1,5 +1,7 @@
 // Cases of the reading: offers each line of standard input, and closes and begins anew at each empty line; then fills
 // a file to its limits.
+#![tactic(auto)]
+
 mod limits;
 
 use reading::{Entry, Reading, Refusal, Told};

@@ -1,4 +1,6 @@
 // Recalls a holding: reads its volumes, offers their records to a reading and writes them to one tape image.
+#![tactic(auto)]
+
 mod survey;
 
 use charset::CodeTable;

@@ -1,5 +1,7 @@
 // Recalling statements: the records of a statement are composed from the rows of the tables, checked, and written to
 // an output. Which records these are is said in specs/Statements.antt.
+#![tactic(auto)]
+
 pub(crate) mod account_ends;
 pub(crate) mod attachments;
 pub mod checks;

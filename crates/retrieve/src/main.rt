@@ -1,6 +1,8 @@
 // Recalls a holding: reads its volumes into tables, tells what they hold, and writes new copies, which it reads back.
 // Its arguments say how each volume is to be read, as `lines-850 FILE blocks-284 FILE`; without any it recalls the
 // sample holdings, of which two are refused.
+#![tactic(auto)]
+
 mod accounts;
 mod arguments;
 mod audits;

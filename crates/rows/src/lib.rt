@@ -1,5 +1,7 @@
 // The rows that a statement is kept in, and what every refusal about tables tells.
 // A row may hold what no file has: its numbers may be too wide for their fields, its texts no characters.
+#![tactic(auto)]
+
 pub mod accounts;
 pub mod movements;
 pub mod notices;

@@ -1,5 +1,7 @@
 // The values of a statement's records: account numbers, periods, balances, movements; and the counts, totals and
 // balances of an account with their limits, which specs/Balances.antt defines.
+#![tactic(auto)]
+
 pub mod balances;
 pub mod parts;
 

@@ -1,4 +1,6 @@
 // Runs the outside cases: what `check` tells of each is compared with the line that it must be.
+#![tactic(auto)]
+
 use checking::check;
 use rows::accounts::UNUSED_ACCOUNT;
 use rows::movements::UNUSED_MOVEMENT;

@@ -11,5 +11,5 @@ returns-in-Some c = record {
   lent = c.set.ensures.lent;
 }
 
-pub overflow-add-movements : goal.overflow-add-movements
-overflow-add-movements c = omega (arith, c.requires, last_below (λ (a : AccountRow). a.movements) _ _ (c.in-Some.last, c.in-Some.row) c.args.accounts.now.fits c.in-Some.ensures)
+pub overflow_add-movements : goal.overflow_add-movements
+overflow_add-movements c = omega (arith, c.requires, last_below (λ (a : AccountRow). a.movements) _ _ (c.in-Some.last, c.in-Some.row) c.args.accounts.now.fits c.in-Some.ensures)

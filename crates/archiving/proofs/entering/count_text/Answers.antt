@@ -11,5 +11,5 @@ returns-in-Some c = record {
   lent = c.set.ensures.lent;
 }
 
-pub overflow-add-texts : goal.overflow-add-texts
-overflow-add-texts c = omega (arith, c.requires, last_below (λ (m : MovementRow). m.texts) _ _ (c.in-Some.last, c.in-Some.row) c.args.movements.now.fits c.in-Some.ensures)
+pub overflow_add-texts : goal.overflow_add-texts
+overflow_add-texts c = omega (arith, c.requires, last_below (λ (m : MovementRow). m.texts) _ _ (c.in-Some.last, c.in-Some.row) c.args.movements.now.fits c.in-Some.ensures)

@@ -3,4 +3,4 @@ use Rattle.charset.proofs.characters.is_character.Goals as goal
 
 pub returns : goal.returns
 unfolding is_character
-returns c = c.in-the-runs.ensures
+returns c = c.in_the_runs.ensures

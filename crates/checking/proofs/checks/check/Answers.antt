@@ -9,7 +9,7 @@ use Rattle.checking.proofs.checks.check.Goals.{in-Ok, in-Err}
 pub returns : goal.returns
 returns c =
     let h = c.read.ensures in
-    let short : length c.args.input.now ≤ 65536 = omega (arith, c.if-input-gt-MOST-BYTES.false) in
+    let short : length c.args.input.now ≤ 65536 = omega (arith, c.if-input-gt-MOST_BYTES.false) in
     let accounts = c.len.ensures ∙ h.tables.accounts.many in
     let movements = c.len-2.ensures ∙ h.tables.movements.many in
     elim c.match-read.branch [

@@ -24,7 +24,7 @@ pub returns : goal.returns
 returns c =
     let width = length c.args.field.now in
     let n = c.args.number in
-    let room = sym c.if-not-has-room.ensures in
+    let room = sym c.if-not-has_room.ensures in
     let same : c.loop-place.field ≡ decimal width n = search rules in
     record {
       answer = sym room;

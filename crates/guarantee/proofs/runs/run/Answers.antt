@@ -26,16 +26,16 @@ loop-call-preserved c =
     let t = c.loop-call.answers in
     let inv = c.loop-call.invariant in
     let x = c.match-call.answer in
-    let p = c.in-ok-push.ensures.pushed in
+    let p = c.in_ok-push.ensures.pushed in
     let e = entered_more _ t.rows.now t.filled x _ _ t.fits inv.1 p in
     elim c.match-call.branch [
       | in-Offer w ↦
           let o = w.in-Offer.offered in
           let is : x ≡ refusal_of s o.now = search rules in
-          (rw (e.0, made_more c.args.calls.now i _ _ more w.in-Offer.is, w.reading-is) (offered s o inv.0 x is w.offer.new.self w.offer.result w.offer.ensures.refusal w.offer.ensures.after), e.1, omega (arith, p.2, inv.2), c.in-ok-push.ensures.lent ∙ inv.3)
+          (rw (e.0, made_more c.args.calls.now i _ _ more w.in-Offer.is, w.reading-is) (offered s o inv.0 x is w.offer.new.self w.offer.result w.offer.ensures.refusal w.offer.ensures.after), e.1, omega (arith, p.2, inv.2), c.in_ok-push.ensures.lent ∙ inv.3)
       | in-Close w ↦
           let is : x ≡ result_err (closing s.phase s.taken) = search rules in
-          (rw (e.0, made_more c.args.calls.now i _ _ more w.in-Close.is, w.reading-is) (closed inv.0 x is), e.1, omega (arith, p.2, inv.2), c.in-ok-push.ensures.lent ∙ inv.3)
+          (rw (e.0, made_more c.args.calls.now i _ _ more w.in-Close.is, w.reading-is) (closed inv.0 x is), e.1, omega (arith, p.2, inv.2), c.in_ok-push.ensures.lent ∙ inv.3)
     ]
 
 pub returns : goal.returns
@@ -51,17 +51,17 @@ returns c =
       lent = inv.3 ∙ c.clear.ensures.lent;
     }
 
-pub returns-in-err-push : goal.returns-in-err-push
-returns-in-err-push c =
+pub returns-in_err-push : goal.returns-in_err-push
+returns-in_err-push c =
     let t = c.loop-call.answers in
     let inv = c.loop-call.invariant in
     let given = c.clear.ensures.rows in
-    let r = err_from_is_err_and c.from-residual.result c.from-residual.ensures.1 in
-    let p = c.in-err-push.ensures.pushed in
+    let r = err_from_is_err_and c.from_residual.result c.from_residual.ensures.1 in
+    let p = c.in_err-push.ensures.pushed in
     let room : length c.args.answers.now.rows.now ≡ c.loop-call.call-index = omega (arith, inv.1.size, ap length given, p.0, inv.2) in
     let few : length c.args.answers.now.rows.now < length c.args.calls.now = omega (arith, room, c.loop-call-test.true) in
     record {
       ran = rw (r.1, p.1, p.2) (few, subst (λ n. Lawful [] (take n c.args.calls.now) (held t.rows.now t.filled)) (sym room) (ended inv.0));
       rows = rw (p.1, p.2) (subst (λ g. Fills g t.rows.now t.filled (held t.rows.now t.filled)) given inv.1);
-      lent = c.in-err-push.ensures.lent ∙ (inv.3 ∙ c.clear.ensures.lent);
+      lent = c.in_err-push.ensures.lent ∙ (inv.3 ∙ c.clear.ensures.lent);
     }

@@ -11,8 +11,8 @@ pub loop-row-preserved : goal.loop-row-preserved
 loop-row-preserved c =
     let here = c.loop-row in
     elim c.match-row.branch [
-      | in-Debit w ↦ debit c.args.own.now here.row-index _ c.loop-row-test.true here.debits here.credits here.invariant _ _ w.in-Debit.is (w.debits-is ∙ w.one-more-debits.ensures) w.credits-is
-      | in-Credit w ↦ credit c.args.own.now here.row-index _ c.loop-row-test.true here.debits here.credits here.invariant _ _ w.in-Credit.is w.debits-is (w.credits-is ∙ w.one-more-credits.ensures)
+      | in-Debit w ↦ debit c.args.own.now here.row-index _ c.loop-row-test.true here.debits here.credits here.invariant _ _ w.in-Debit.is (w.debits-is ∙ w.one_more-debits.ensures) w.credits-is
+      | in-Credit w ↦ credit c.args.own.now here.row-index _ c.loop-row-test.true here.debits here.credits here.invariant _ _ w.in-Credit.is w.debits-is (w.credits-is ∙ w.one_more-credits.ensures)
     ]
 
 pub returns : goal.returns

@@ -8,4 +8,4 @@ loop-composed-init c = start _ _ _ (new_at_start _ c.new-reading.ensures) c.new-
 
 pub returns : goal.returns
 returns c =
-    sym (taken_all _ _ _ _ _ c.loop-composed.invariant c.in-default.ensures.0 c.compose-file-end.ensures.answer c.in-ok-offer-composed-2.ensures.refusal)
+    sym (taken_all _ _ _ _ _ c.loop-composed.invariant c.in_default.ensures.0 c.compose_file_end.ensures.answer c.in_ok-offer_composed-2.ensures.refusal)

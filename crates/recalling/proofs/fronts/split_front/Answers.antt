@@ -20,7 +20,7 @@ drop_min n m xs is =
 
 pub returns : goal.returns
 returns g c = record {
-  front = c.split-at.ensures.front ∙ take_min _ _ _ c.min.ensures;
-  behind = c.split-at.ensures.back ∙ drop_min _ _ _ c.min.ensures;
-  few = omega (arith, c.split-at.ensures.front-len, c.min.ensures);
+  front = c.split_at.ensures.front ∙ take_min _ _ _ c.min.ensures;
+  behind = c.split_at.ensures.back ∙ drop_min _ _ _ c.min.ensures;
+  few = omega (arith, c.split_at.ensures.front-len, c.min.ensures);
 }

@@ -8,4 +8,4 @@ loop-composed-init g c = start _ _ _ _ _ c.requires.checked c.requires.places c.
 pub loop-composed-preserved : goal.loop-composed-preserved
 loop-composed-preserved g c =
     let next = c.in-Some.ensures in
-    more _ _ _ _ _ _ _ _ _ (remaining c.next.new.self) _ _ c.loop-composed.invariant next.1 next.2 c.put-composed.ensures.put c.put-composed.ensures.places
+    more _ _ _ _ _ _ _ _ _ (remaining c.next.new.self) _ _ c.loop-composed.invariant next.1 next.2 c.put_composed.ensures.put c.put_composed.ensures.places

@@ -4,20 +4,20 @@ use Rattle.records.specs.Checks.{is_date, date as kind}
 use Rattle.records.proofs.Judging.{right, wrong, chain}
 use Rattle.records.proofs.columns.date.Goals as goal
 
-pub returns-then-is-real-day : goal.returns-then-is-real-day
+pub returns-then-is_real_day : goal.returns-then-is_real_day
 unfolding kind is_date
-returns-then-is-real-day c = record {
-  refusal = right c.args.from c.args.to is_date c.args.offered.now c.in-ok-short-digits.ensures.refusal (ap (real_day) (sym c.in-ok-short-digits.ensures.number) ∙ (sym c.is-real-day.ensures ∙ c.if-is-real-day.true));
-  day = ap (λ n. record { digits = n }) c.in-ok-short-digits.ensures.number;
+returns-then-is_real_day c = record {
+  refusal = right c.args.from c.args.to is_date c.args.offered.now c.in_ok-short_digits.ensures.refusal (ap (real_day) (sym c.in_ok-short_digits.ensures.number) ∙ (sym c.is_real_day.ensures ∙ c.if-is_real_day.true));
+  day = ap (λ n. record { digits = n }) c.in_ok-short_digits.ensures.number;
 }
 
-pub returns-else-is-real-day : goal.returns-else-is-real-day
+pub returns-else-is_real_day : goal.returns-else-is_real_day
 unfolding kind is_date
-returns-else-is-real-day c = record {
-  refusal = wrong c.args.from c.args.to is_date c.args.offered.now c.in-ok-short-digits.ensures.refusal c.refused.result c.refused.ensures (ap (real_day) (sym c.in-ok-short-digits.ensures.number) ∙ (sym c.is-real-day.ensures ∙ c.if-is-real-day.false));
+returns-else-is_real_day c = record {
+  refusal = wrong c.args.from c.args.to is_date c.args.offered.now c.in_ok-short_digits.ensures.refusal c.refused.result c.refused.ensures (ap (real_day) (sym c.in_ok-short_digits.ensures.number) ∙ (sym c.is_real_day.ensures ∙ c.if-is_real_day.false));
   day = tt;
 }
 
-pub returns-in-err-short-digits : goal.returns-in-err-short-digits
+pub returns-in_err-short_digits : goal.returns-in_err-short_digits
 unfolding kind
-returns-in-err-short-digits c = search (rules, chain)
+returns-in_err-short_digits c = search (rules, chain)

@@ -2,17 +2,17 @@ use Rattle.std.proofs.Common.{rules}
 use Rattle.records.proofs.Judging.{chain}
 use Rattle.records.proofs.movements.key_and_amount.Goals as goal
 
-pub returns-in-err-key : goal.returns-in-err-key
-returns-in-err-key c = search (rules, chain)
+pub returns-in_err-key : goal.returns-in_err-key
+returns-in_err-key c = search (rules, chain)
 
-pub returns-in-err-ask : goal.returns-in-err-ask
-returns-in-err-ask c = search (rules, chain)
+pub returns-in_err-ask : goal.returns-in_err-ask
+returns-in_err-ask c = search (rules, chain)
 
-pub returns-in-err-amount : goal.returns-in-err-amount
-returns-in-err-amount c = search (rules, chain)
+pub returns-in_err-amount : goal.returns-in_err-amount
+returns-in_err-amount c = search (rules, chain)
 
-pub returns-in-err-ask-2 : goal.returns-in-err-ask-2
-returns-in-err-ask-2 c = search (rules, chain)
+pub returns-in_err-ask-2 : goal.returns-in_err-ask-2
+returns-in_err-ask-2 c = search (rules, chain)
 
 pub returns : goal.returns
 returns c = search (rules, chain)

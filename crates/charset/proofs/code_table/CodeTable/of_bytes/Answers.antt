@@ -4,11 +4,11 @@ use Rattle.charset.specs.Characters.{characters}
 use Rattle.charset.proofs.code_table.CodeTable.of_bytes.Goals as goal
 use Rattle.charset.proofs.Filling.{none, more, came_before, all}
 
-pub returns-then-is-some : goal.returns-then-is-some
-returns-then-is-some c =
+pub returns-then-is_some : goal.returns-then-is_some
+returns-then-is_some c =
     let long : length c.args.bytes ≡ 57 = search rules in
     let small : get_or c.args.bytes c.loop-place.place 0 < 256 = search rules in
-    sym (ap repeated (came_before c.args.bytes characters c.loop-place.decoding c.loop-place.encoding c.loop-place.place long (omega arith) c.loop-place.invariant small (sym c.if-is-some.ensures)))
+    sym (ap repeated (came_before c.args.bytes characters c.loop-place.decoding c.loop-place.encoding c.loop-place.place long (omega arith) c.loop-place.invariant small (sym c.if-is_some.ensures)))
 
 pub loop-place-init : goal.loop-place-init
 loop-place-init c = none c.args.bytes characters
@@ -18,10 +18,10 @@ loop-place-preserved c =
     let long : length c.args.bytes ≡ 57 = search rules in
     let small : get_or c.args.bytes c.loop-place.place 0 < 256 = search rules in
     let small' : get_or characters c.loop-place.place 0 < 256 = search rules in
-    more c.args.bytes characters c.loop-place.decoding c.loop-place.encoding c.loop-place.place long (omega arith) c.loop-place.invariant small small' (sym c.if-is-some.ensures) refl
+    more c.args.bytes characters c.loop-place.decoding c.loop-place.encoding c.loop-place.place long (omega arith) c.loop-place.invariant small small' (sym c.if-is_some.ensures) refl
 
-pub invariant-of-result : goal.invariant-of-result
-invariant-of-result c =
+pub invariant_of-result : goal.invariant_of-result
+invariant_of-result c =
     let long : length c.args.bytes ≡ 57 = search rules in
     let done = all c.args.bytes characters c.loop-place.decoding c.loop-place.encoding c.loop-place.place (omega arith) (omega arith) c.loop-place.invariant in
-    (long, (done.0, (done.1, (done.2, tt))))
+    record { complete = long; apart = done.0; reads = done.1; writes = done.2 }

@@ -4,4 +4,4 @@ use Rattle.charset.specs.Tables.{Makes}
 use Rattle.charset.proofs.code_table.CodeTable.page_850.Goals as goal
 
 pub returns : goal.returns
-returns c = (subst (Makes page_850) c.unwrap.ensures c.of-bytes.ensures).0
+returns c = (subst (Makes page_850) c.unwrap.ensures c.of_bytes.ensures).0

@@ -11,8 +11,8 @@ returns c =
     let s = c.args.self in
     let width = c.args.width in
     let whole : length s.characters ≡ 80 = search rules in
-    let blank = c.write-blank.ensures ∙ ap (λ n. replicate n 32) (length-behind s.characters s.filled width (omega arith)) in
+    let blank = c.write_blank.ensures ∙ ap (λ n. replicate n 32) (length-behind s.characters s.filled width (omega arith)) in
     record {
-      parts = put s.characters c.write-blank.new.field s.filled _ (s.filled + width) s.unfit (spaces width) (omega arith) (rw (blank, length-replicate) refl) blank refl;
+      parts = put s.characters c.write_blank.new.field s.filled _ (s.filled + width) s.unfit (spaces width) (omega arith) (rw (blank, length-replicate) refl) blank refl;
       filled = refl;
     }

@@ -10,8 +10,8 @@ returns c =
     let s = c.args.self in
     let part = c.args.part.now in
     let whole : length s.characters ≡ 80 = search rules in
-    let e = c.copy-from-slice.ensures.after in
+    let e = c.copy_from_slice.ensures.after in
     record {
-      parts = put s.characters c.copy-from-slice.new.self s.filled _ (s.filled + length part) s.unfit (plain part) (omega arith) (rw e refl) e refl;
+      parts = put s.characters c.copy_from_slice.new.self s.filled _ (s.filled + length part) s.unfit (plain part) (omega arith) (rw e refl) e refl;
       filled = refl;
     }

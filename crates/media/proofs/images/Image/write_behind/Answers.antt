@@ -5,8 +5,8 @@ use Rattle.media.specs.Images.{Behind}
 use Rattle.media.proofs.Writing.{part_none, part_more}
 use Rattle.media.proofs.images.Image.write_behind.Goals as goal
 
-pub invariant-of-self : goal.invariant-of-self
-invariant-of-self c =
+pub invariant_of-self : goal.invariant_of-self
+invariant_of-self c =
     let i = c.loop-i.self in
     let at = c.args.place + c.loop-i.i in
     let v = get_or c.args.part.now c.loop-i.i 0 in

@@ -6,4 +6,4 @@ use Rattle.media.proofs.volumes.Volume.look.Goals as goal
 pub returns : goal.returns
 returns c =
     let v = c.args.self.now in
-    c.record-at.ensures ∙ ap (λ rest. standing v.framing v.table rest v.position) (take_rest v.bytes.now v.position)
+    c.record_at.ensures ∙ ap (λ rest. standing v.framing v.table rest v.position) (take_rest v.bytes.now v.position)

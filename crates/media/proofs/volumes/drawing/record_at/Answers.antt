@@ -4,11 +4,11 @@ use Rattle.media.proofs.Standing.{held}
 use Rattle.media.proofs.Translating.{within}
 use Rattle.media.proofs.volumes.drawing.record_at.Goals as goal
 
-pub overflow-add-place-in-Err : goal.overflow-add-place-in-Err
-overflow-add-place-in-Err c =
+pub overflow_add-place-in-Err : goal.overflow_add-place-in-Err
+overflow_add-place-in-Err c =
     let inside = within (decoded c.args.table.now) (take 80 c.args.rest.now) 0 c.in-Err.i c.in-Err.ensures in
     omega (arith, length-take 80 c.args.rest.now)
 
 pub returns-in-Ok : goal.returns-in-Ok
 returns-in-Ok c =
-    sym (held c.args.framing c.args.table.now c.args.rest.now c.args.place c.stride-stride.result c.in-Ok.characters c.stride-stride.ensures c.if-rest-stride.false (sym c.if-not-is-line-end.ensures) c.in-Ok.ensures.0 c.in-Ok.ensures.1)
+    sym (held c.args.framing c.args.table.now c.args.rest.now c.args.place c.stride-stride.result c.in-Ok.characters c.stride-stride.ensures c.if-rest-stride.false (sym c.if-not-is_line_end.ensures) c.in-Ok.ensures.0 c.in-Ok.ensures.1)

@@ -14,15 +14,15 @@ pub returns-in-Some-take : goal.returns-in-Some-take
 returns-in-Some-take c =
     let s = c.args.self.now in
     let took = c.in-Some-take.ensures in
-    let none = c.in-default.ensures.cases in (
+    let none = c.in_default.ensures.cases in (
       equivalent_layout c.in-Some-take.equivalent,
       no_texts s.came s.texts.now _ _ none (sym took.value) ∙ sym (ap (λ l. equivalent_layout c.in-Some-take.equivalent ∷ l) (no_texts s.came s.texts.now _ _ none took.after)),
-      c.compose-equivalent.ensures.answer,
+      c.compose_equivalent.ensures.answer,
     )
 
 pub returns-in-None : goal.returns-in-None
 returns-in-None c =
     let s = c.args.self.now in
     let took = c.in-None.ensures in
-    let none = c.in-default.ensures.cases in
+    let none = c.in_default.ensures.cases in
     (no_texts s.came s.texts.now _ _ none (sym took.value), no_texts s.came s.texts.now _ _ none took.after)

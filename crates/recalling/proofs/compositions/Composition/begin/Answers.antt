@@ -10,8 +10,8 @@ returns-in-Some c =
     let s = c.args.self.now in
     let a = c.in-Some.row.now in (
       account_layout a.head a.name,
-      ap (λ b. attached s.attached ++ behind s.accounts.now s.movements.now s.texts.now b) c.requires.outside ∙ account_begins _ _ c.requires.detached a _ _ _ _ _ c.in-Some.ensures.cases.0 c.split-front.ensures.front c.split-front.ensures.behind,
-      c.compose-account.ensures.answer,
+      ap (λ b. attached s.attached ++ behind s.accounts.now s.movements.now s.texts.now b) c.requires.outside ∙ account_begins _ _ c.requires.detached a _ _ _ _ _ c.in-Some.ensures.cases.0 c.split_front.ensures.front c.split_front.ensures.behind,
+      c.compose_account.ensures.answer,
     )
 
 pub returns-in-None : goal.returns-in-None

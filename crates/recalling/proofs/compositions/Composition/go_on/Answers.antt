@@ -11,8 +11,8 @@ returns-in-Some c =
     let s = c.args.self.now in
     let m = c.in-Some.row.now in (
       movement_layout m.movement m.reference_2,
-      ap (λ b. attached s.attached ++ behind s.accounts.now s.movements.now s.texts.now b) c.requires.inside ∙ movement_begins _ _ c.requires.detached m _ _ _ _ _ _ _ _ c.in-Some.ensures.cases.0 c.split-front.ensures.front c.split-front.ensures.behind c.new-self.ensures,
-      c.compose-movement.ensures.answer,
+      ap (λ b. attached s.attached ++ behind s.accounts.now s.movements.now s.texts.now b) c.requires.inside ∙ movement_begins _ _ c.requires.detached m _ _ _ _ _ _ _ _ c.in-Some.ensures.cases.0 c.split_front.ensures.front c.split_front.ensures.behind c.new-self.ensures,
+      c.compose_movement.ensures.answer,
     )
 
 pub returns-in-None : goal.returns-in-None
@@ -22,5 +22,5 @@ returns-in-None c =
     let b = c.args.begun in (
       account_end_layout (close_of b.row.now b.own.now),
       ap (λ o. attached s.attached ++ behind s.accounts.now s.movements.now s.texts.now o) c.requires.inside ∙ account_ends _ _ c.requires.detached _ _ _ _ c.in-None.ensures.cases,
-      c.compose-end.ensures,
+      c.compose_end.ensures,
     )

@@ -18,9 +18,9 @@ returns-in-Some c =
 
 pub returns-in-Some-begun : goal.returns-in-Some-begun
 returns-in-Some-begun c =
-    let y = c.go-on.ensures in
-    (y.0, detached c.args.self.now c.next.new.self c.in-default.ensures ∙ y.1, y.2)
+    let y = c.go_on.ensures in
+    (y.0, detached c.args.self.now c.next.new.self c.in_default.ensures ∙ y.1, y.2)
 
 pub returns-in-None : goal.returns-in-None
 returns-in-None c =
-    subst (λ l. Yields l (remaining c.begin.new.self) c.begin.result) (sym (detached c.args.self.now c.next.new.self c.in-default.ensures)) c.begin.ensures
+    subst (λ l. Yields l (remaining c.begin.new.self) c.begin.result) (sym (detached c.args.self.now c.next.new.self c.in_default.ensures)) c.begin.ensures

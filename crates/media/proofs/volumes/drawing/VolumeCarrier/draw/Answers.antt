@@ -3,8 +3,8 @@ use Rattle.media.specs.Volumes.{rest_of}
 use Rattle.media.proofs.Scanning.{stands_whole, drawn_record, drawn_none}
 use Rattle.media.proofs.volumes.drawing.VolumeCarrier.draw.Goals as goal
 
-pub invariant-of-self : goal.invariant-of-self
-invariant-of-self c =
+pub invariant_of-self : goal.invariant_of-self
+invariant_of-self c =
     let v = c.args.self.now in
     let w = stands_whole v.framing v.table (rest_of v) v.position c.in-Ok.characters (sym c.in-Ok.ensures) in
     (omega (arith, w.0, c.stride.ensures, length-drop v.position v.bytes.now), tt)
