@@ -16,7 +16,7 @@ pub fn read_file_end(offered: &[u8; 80], before: u32) -> Result<u32, FieldRefusa
     ensures number { IfOk result (λ n. (n ≡ before) × (n ≡ number_at 21 26 offered.now)) }
 {
     digits(offered, 3, 20)?;
-    ask(Question::Value, 3, &offered[2..20] == &NINES)?;
+    ask(Question::Value, 3, &offered[2..20] == NINES.as_slice())?;
     same_number(offered, 21, 26, u64::from(before))?;
     spaces(offered, 27, 80)?;
     Ok(before)

@@ -9,7 +9,7 @@ use Rattle.reading.specs.Phases.{next}
 use Rattle.reading.specs.Taken.{InLimits, kind_told, Tells}
 use Rattle.reading.proofs.Steps.{Limits, past_limit, by_fields, numbered, few, in_limits, account_is, with_limits}
 use Rattle.reading.proofs.readings.Reading.take.Goals as goal
-use Rattle.reading.proofs.readings.Reading.take.Goals.{In-Some-next, In-ok-entry}
+use Rattle.reading.proofs.readings.Reading.take.Goals.{In-Some-next, In_ok-entry}
 
 -- the offered bytes are 80 characters of a kind that may follow
 same : (c : goal.In-Some-next) → c.in-Ok.characters.now ≡ c.args.offered.now
@@ -49,7 +49,7 @@ returns-in_err-entry c =
     }
 
 -- the checks of the kind hold, and the entry is of that kind
-checked : (c : goal.In-ok-entry) → None ≡ judged (checks (kind_told c.in_ok-entry.entry) (texts_of c.args.self.now.phase) c.args.self.now.taken c.args.self.now.account) c.args.offered.now
+checked : (c : goal.In_ok-entry) → None ≡ judged (checks (kind_told c.in_ok-entry.entry) (texts_of c.args.self.now.phase) c.args.self.now.taken c.args.self.now.account) c.args.offered.now
 checked c =
     let s = c.args.self.now in
     sym (ap result_err c.in_ok-entry.was)
@@ -57,26 +57,26 @@ checked c =
     ∙ (ap (judged (checks c.in-Some-of_code.kind (texts_of s.phase) s.taken s.account)) c.in-Ok.ensures.1.same
     ∙ ap (λ k. judged (checks k (texts_of s.phase) s.taken s.account) c.args.offered.now) (sym c.in_ok-entry.ensures.kind)))
 
-told : (c : goal.In-ok-entry) → Tells c.args.self.now.account c.args.offered.now c.in_ok-entry.entry
+told : (c : goal.In_ok-entry) → Tells c.args.self.now.account c.args.offered.now c.in_ok-entry.entry
 told c = subst (λ o. Tells c.args.self.now.account o c.in_ok-entry.entry) c.in-Ok.ensures.1.same c.in_ok-entry.ensures.tells
 
-limits : (c : goal.In-ok-entry) → InLimits c.args.self.now.account c.in_ok-entry.entry
+limits : (c : goal.In_ok-entry) → InLimits c.args.self.now.account c.in_ok-entry.entry
 limits c = in_limits c.args.self.now.account c.args.offered.now (texts_of c.args.self.now.phase) c.args.self.now.taken c.in_ok-entry.entry (told c) (checked c)
 
 pub account_with-account-requires : goal.account_with-account-requires
-account_with-account-requires c = limits (goal.at.account_with-account-requires c).In-ok-entry
+account_with-account-requires c = limits (goal.at.account_with-account-requires c).In_ok-entry
 
 pub invariant_of-self : goal.invariant_of-self
 invariant_of-self c =
     let s = c.args.self.now in
     let held : Limits s.account = record { debits = s.debits; debited = s.debited; credits = s.credits; credited = s.credited } in
-    let l = subst Limits (sym c.account_with-account.ensures) (with_limits s.account c.in_ok-entry.entry held (limits (goal.at.invariant_of-self c).In-ok-entry)) in
+    let l = subst Limits (sym c.account_with-account.ensures) (with_limits s.account c.in_ok-entry.entry held (limits (goal.at.invariant_of-self c).In_ok-entry)) in
     (omega (arith, numbered c.in-Some-of_code.kind, c.last_number.ensures, c.if-self-last_number.false), (few s.phase c.in-Some-of_code.kind c.in-Some-next.phase (sym c.in-Some-next.ensures), (l.debits, (l.debited, (l.credits, (l.credited, tt))))))
 
 pub returns : goal.returns
 returns c =
     let was = (goal.at.returns c).In-Some-next in
-    let there = (goal.at.returns c).In-ok-entry in
+    let there = (goal.at.returns c).In_ok-entry in
     let s = c.args.self.now in
     let kind_is = c.in_ok-entry.ensures.kind in
     let fields = by_fields s.phase c.in-Some-next.phase s.taken s.account c.args.offered.now c.in-Some-of_code.kind (long was) (good was) (is was) (sym c.in-Some-next.ensures) (omega (arith, c.last_number.ensures, c.if-self-last_number.false)) in
