@@ -71,7 +71,14 @@ invariant_of-self c =
     let s = c.args.self.now in
     let held : Limits s.account = record { debits = s.debits; debited = s.debited; credits = s.credits; credited = s.credited } in
     let l = subst Limits (sym c.account_with-account.ensures) (with_limits s.account c.in_ok-entry.entry held (limits (goal.at.invariant_of-self c).In_ok-entry)) in
-    (omega (arith, numbered c.in-Some-of_code.kind, c.last_number.ensures, c.if-self-last_number.false), (few s.phase c.in-Some-of_code.kind c.in-Some-next.phase (sym c.in-Some-next.ensures), (l.debits, (l.debited, (l.credits, (l.credited, tt))))))
+    record {
+      counted = omega (arith, numbered c.in-Some-of_code.kind, c.last_number.ensures, c.if-self-last_number.false);
+      few = few s.phase c.in-Some-of_code.kind c.in-Some-next.phase (sym c.in-Some-next.ensures);
+      debits = l.debits;
+      debited = l.debited;
+      credits = l.credits;
+      credited = l.credited;
+    }
 
 pub returns : goal.returns
 returns c =
