@@ -4,7 +4,7 @@ use Rattle.media.proofs.copying.copy.Given as goal
 
 abbrev pub invariant-loop-output : goal.invariant-loop-output
 invariant-loop-output g l =
-    Midway (g.C.Carrier.records l.initial.carrier) (g.C.Carrier.records l.carrier) (g.O-as-Output.put l.initial.output) (g.O-as-Output.put l.output) (g.O-as-Output.places l.initial.output) (g.O-as-Output.places l.output)
+    Midway (g.C.Carrier.records l.initial.carrier) (g.C.Carrier.records l.carrier) (g.O.Output.put l.initial.output) (g.O.Output.put l.output) (g.O.Output.places l.initial.output) (g.O.Output.places l.output)
     × (g.C.Carrier.ending l.carrier ≡ g.C.Carrier.ending l.initial.carrier)
     × (g.C.Carrier.volumes l.carrier ≡ g.C.Carrier.volumes l.initial.carrier)
 

@@ -8,4 +8,4 @@ tested : (xs ys : List ℕ) (r : Bool) → Decides r (xs ≡ ys) → r ≡ bytes
 tested xs ys r h = search (rules, bytes_eq-Decides)
 
 pub returns : goal.returns
-returns c = tested _ _ _ (slice_eq-Decides Decides-eqb _ _ _ c.eq.ensures) ∙ ap (bytes_eq c.args.bytes.now) c.line_end.ensures
+returns c = tested c.args.bytes.now c.line_end.result.now _ (slice_eq-Decides Decides-eqb _ _ _ c.eq.ensures) ∙ ap (bytes_eq c.args.bytes.now) c.line_end.ensures

@@ -10,7 +10,10 @@ invariant_of-self c =
     let i = c.loop-i.self in
     let at = c.args.place + c.loop-i.i in
     let v = get_or c.args.part.now c.loop-i.i 0 in
-    (omega (arith, length-set i.bytes.now at v, i.within), (ap (reads_clean i.framing i.table) (take-set-le i.position i.bytes.now at v (omega (arith, c.loop-i.invariant.0.position_same, c.requires.0))) ∙ i.clean, tt))
+    record {
+      within = omega (arith, length-set i.bytes.now at v, i.within);
+      clean = ap (reads_clean i.framing i.table) (take-set-le i.position i.bytes.now at v (omega (arith, c.loop-i.invariant.0.position_same, c.requires.0))) ∙ i.clean;
+    }
 
 pub loop-i-init : goal.loop-i-init
 loop-i-init c =

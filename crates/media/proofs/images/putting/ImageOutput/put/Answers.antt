@@ -36,7 +36,7 @@ done c =
     put i.framing c.write_behind-2.new.self.framing i.table c.write_behind-2.new.self.table i.bytes.now c.write_behind-2.new.self.bytes.now c.args.offered.now i.position c.stride.result (same-framing c) (same-table c) (written c) c.stride.ensures c.in-Some.ensures.0 (room i (λ z. c.if-places-eq0.false (c.places.ensures ∙ z))) i.clean
 
 pub invariant_of-self : goal.invariant_of-self
-invariant_of-self c = let p = done c in (p.inside, (p.clean, tt))
+invariant_of-self c = let p = done c in record { within = p.inside; clean = p.clean }
 
 pub returns : goal.returns
 returns c =

@@ -7,7 +7,7 @@ pub invariant_of-self : goal.invariant_of-self
 invariant_of-self c =
     let v = c.args.self.now in
     let w = stands_whole v.framing v.table (rest_of v) v.position c.in-Ok.characters (sym c.in-Ok.ensures) in
-    (omega (arith, w.0, c.stride.ensures, length-drop v.position v.bytes.now), tt)
+    record { within = omega (arith, w.0, c.stride.ensures, length-drop v.position v.bytes.now) }
 
 pub returns-in-Ok : goal.returns-in-Ok
 returns-in-Ok c =
