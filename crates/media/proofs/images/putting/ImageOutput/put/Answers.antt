@@ -1,6 +1,5 @@
 use Rattle.std.proofs.Common.{◌≡◌, ◌+◌, length, sym, refl, ap, ◌∙◌, arith}
 use Rattle.std.proofs.lemmas.Bool.{ne_eqb}
-use Rattle.media.specs.Frames.{stride}
 use Rattle.media.specs.Images.{framed, bytes_after, places_left}
 use Rattle.media.proofs.Writing.{part_length}
 use Rattle.media.proofs.Appending.{Put, room, text_long, wrote, put}
