@@ -19,20 +19,20 @@ pub loop-reading-preserved : goal.loop-reading-preserved
 loop-reading-preserved g c =
     let inv = c.loop-reading.invariant in
     let d = record_drawn _ _ _ _ _ c.in-Record.ensures.drawn in
-    let took = c.in_ok-take.ensures in
+    let took = c.in_ok-take-in-Record.ensures in
     (more inv.0 (tables c.take.new.accounts c.take.new.movements c.take.new.texts) (progress c.take.new.reading) c.draw.new.into (g.C.Carrier.records c.draw.new.self) d.0 took.answer took.tables took.reading took.count, omega (arith, inv.1, took.count), c.draw.ensures.ending ∙ inv.2, c.draw.ensures.volumes ∙ inv.3)
 
 -- what came of the records, over the rows that were given: the tables were emptied before
-pub returns-in_err-take : goal.returns-in_err-take
-returns-in_err-take g c =
+pub returns-in_err-take-in-Record : goal.returns-in_err-take-in-Record
+returns-in_err-take-in-Record g c =
     let inv = c.loop-reading.invariant in
     let given = tables c.args.accounts.now c.args.movements.now c.args.texts.now in
     let emptied = tables c.empty.new.accounts c.empty.new.movements c.empty.new.texts in
     let after = tables c.take.new.accounts c.take.new.movements c.take.new.texts in
     let d = record_drawn _ _ _ _ _ c.in-Record.ensures.drawn in
     let r = err_from_is_err_and c.from_residual.result c.from_residual.ensures.1 in
-    let stop = c.in_err-take.ensures in
-    let s = stopped inv.0 after c.draw.new.into (g.C.Carrier.records c.draw.new.self) c.in_err-take.field-0.0 d.0 stop.answer stop.tables in
+    let stop = c.in_err-take-in-Record.ensures in
+    let s = stopped inv.0 after c.draw.new.into (g.C.Carrier.records c.draw.new.self) c.in_err-take-in-Record.field-0.0 d.0 stop.answer stop.tables in
     let whole = ap (λ room. read_of room (g.C.Carrier.records c.args.carrier.now) (g.C.Carrier.ending c.args.carrier.now)) (sym (same_room given emptied _ c.empty.ensures)) ∙ s.0 in
     record {
       answer = r.1 ∙ (ap Err r.2 ∙ sym (ap (λ (o : Outcome). o.answer) whole));

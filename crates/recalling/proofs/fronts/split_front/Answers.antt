@@ -22,5 +22,5 @@ pub returns : goal.returns
 returns g c = record {
   front = c.split_at.ensures.front ∙ take_min _ _ _ c.min.ensures;
   behind = c.split_at.ensures.back ∙ drop_min _ _ _ c.min.ensures;
-  few = omega (arith, c.split_at.ensures.front-len, c.min.ensures);
+  few = omega (arith, c.split_at.ensures.front_len, c.min.ensures);
 }
