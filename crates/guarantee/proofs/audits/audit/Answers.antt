@@ -14,12 +14,12 @@ returns g c =
     let two = says _ _ _ _ _ _ s.whole s.kept in
     let kept = rows_in (tables c.read-first.new.accounts c.read-first.new.movements c.read-first.new.texts) in
     let lent : ◌≡◌ {A = Rows} (record { accounts = c.rows.result.now; movements = c.rows-2.result.now; texts = c.rows-3.result.now }) kept = rw (c.rows.ensures, c.rows-2.ensures, c.rows-3.ensures) refl in
-    let places = g.row.O-Output.places c.args.output.now in
+    let places = g.O.Output.places c.args.output.now in
     record {
       promises = promised _ one two _ _ _ c.run-ran.ensures.ran _ _ _ _ lent w.back;
       first = record { answer = f.answer; tables = f.tables; to_come = f.left };
       second = record { answer = s.answer; tables = s.tables; to_come = s.left };
       written = w.answer ∙ ap (λ (t : Rows). writing t places) lent;
-      output = subst (λ (t : Rows). Written t (g.row.O-Output.put c.args.output.now) places (g.row.O-Output.put c.write-written.new.output) (g.row.O-Output.places c.write-written.new.output) c.write-written.result) lent w.written;
+      output = subst (λ (t : Rows). Written t (g.O.Output.put c.args.output.now) places (g.O.Output.put c.write-written.new.output) (g.O.Output.places c.write-written.new.output) c.write-written.result) lent w.written;
       answers = c.run-ran.ensures.rows;
     }
