@@ -1,6 +1,5 @@
 -- What the answers of a reading say of its progress. Assumes nothing.
 use Rattle.std.proofs.Common.{◌≡◌, ℕ, ◌+◌, List, sym, refl, ap, ◌∙◌}
-use Rattle.reading.specs.Offers.{kind_in}
 use Rattle.reading.specs.Taken.{New, Moved, refusal_of}
 use Rattle.reading.specs.Progress.{Progress, progress, at_start, refused, moved, moved_to, after}
 use Rattle.reading.specs.declared.kinds.Kind.{Kind}

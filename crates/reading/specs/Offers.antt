@@ -8,7 +8,6 @@ use Rattle.values.specs.declared.parts.OpenAccount.{OpenAccount}
 use Rattle.reading.specs.Kinds.{kind_of, last_number}
 use Rattle.reading.specs.Limits.{texts_of}
 use Rattle.reading.specs.Phases.{next}
-use Rattle.reading.specs.declared.entries.Entry.TheVariants as entry
 use Rattle.reading.specs.declared.kinds.Kind.{Kind}
 use Rattle.reading.specs.declared.kinds.Kind.TheVariants.{Account, Movement, Text, Equivalent, AccountEnd, FileEnd}
 use Rattle.reading.specs.declared.phases.Phase.{Phase}

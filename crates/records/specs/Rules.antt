@@ -1,13 +1,13 @@
 -- The rules of the six records: each field of a record, from the left, with what is asked of it.
 -- A field of any characters is not asked anything. Assumes nothing.
-use Rattle.std.specs.Prelude.{ℕ, suc, ◌+◌, ◌-◌, Bool, not, ◌&&◌, List, ◌++◌, replicate, ◌==◌, nat_eq, nat_le}
+use Rattle.std.specs.Prelude.{ℕ, suc, Bool, not, ◌&&◌, List, ◌++◌, replicate, ◌==◌, nat_eq, nat_le}
 use Rattle.std.specs.Str.{bytes_eq}
 use Rattle.fields.specs.Calendar.{not_before}
 use Rattle.fields.specs.Decimal.{value}
 use Rattle.fields.specs.declared.modalities.Modality.{Modality}
 use Rattle.fields.specs.declared.modalities.Modality.TheVariants.{First, Second, Third}
 use Rattle.values.specs.Balances.{counts_in_limit, stays_in_limit, key_fits, final_amount}
-use Rattle.records.specs.Checks.{Check, columns, asked, digits, spaces, date, currency, common_concept, key, modality, reference, agreeing, limited}
+use Rattle.records.specs.Checks.{Check, asked, digits, spaces, date, currency, common_concept, key, modality, reference, agreeing, limited}
 use Rattle.records.specs.Values.{number_at, key_at}
 use Rattle.records.specs.declared.refusals.Question.TheVariants.{Value}
 use Rattle.values.specs.declared.parts.AccountHead.{AccountHead}

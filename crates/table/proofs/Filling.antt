@@ -1,8 +1,7 @@
 -- How a table fills up, over the rows that were given. Assumes nothing.
-use Rattle.std.proofs.Common.{◌≡◌, ℕ, ◌+◌, ◌-◌, ◌<◌, ◌≤◌, Bool, true, false, ltb, List, [], ◌∷◌, ◌++◌, length, get_or, take, drop, set, Some, None, Ok, Err, Option, sym, refl, ap, ◌∙◌, subst, arith, length-append, length-set, length-take}
-use Rattle.std.proofs.lemmas.List.{take_more, take_more_set, drop-set, drop-drop, length-take-le, nil_from_length}
+use Rattle.std.proofs.Common.{◌≡◌, ℕ, ◌+◌, ◌-◌, ◌<◌, ◌≤◌, Bool, true, false, List, [], ◌∷◌, ◌++◌, length, take, drop, set, Some, None, Ok, sym, refl, ap, ◌∙◌, subst, arith, length-append, length-set}
+use Rattle.std.proofs.lemmas.List.{take_more, take_more_set, drop-set, drop-drop, length-take-le}
 use Rattle.table.specs.Rows.{held, Pushed, WasSet, LastOf, Fills, revised}
-use Rattle.table.specs.declared.tables.Full.{Full}
 
 module _ {A : Type 0} where
   -- a table that was emptied

@@ -2,7 +2,6 @@ use Rattle.std.proofs.Common.{◌≡◌, length, Some, None, sym, refl, ap, ◌�
 use Rattle.std.specs.Result.{result_err}
 use Rattle.std.proofs.lemmas.Result.{err_from_is_err_and}
 use Rattle.records.specs.Checks.{judged}
-use Rattle.reading.specs.Kinds.{last_number}
 use Rattle.reading.specs.Limits.{texts_of}
 use Rattle.reading.specs.Offers.{first_bad, kind_in, checks, field_cause}
 use Rattle.reading.specs.Phases.{next}
