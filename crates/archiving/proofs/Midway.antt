@@ -1,5 +1,5 @@
 -- A read that has come some way. Assumes nothing.
-use Rattle.std.proofs.Common.{◌≡◌, ℕ, ◌+◌, ◌≤◌, List, [], ◌∷◌, ◌++◌, length, Some, None, Ok, Err, Option, sym, refl, ap, ◌∙◌, subst, ap₂, arith, length-append}
+use Rattle.std.proofs.Common.{◌≡◌, ℕ, ◌+◌, ◌≤◌, List, [], ◌∷◌, length, Some, None, Err, Option, sym, refl, ap, ◌∙◌, subst, ap₂, arith, length-append}
 use Rattle.fields.specs.declared.keys.Key.{Key}
 use Rattle.fields.specs.declared.modalities.Modality.{Modality}
 use Rattle.values.specs.declared.parts.Equivalent.{Equivalent}
@@ -10,15 +10,14 @@ use Rattle.reading.specs.Offers.{kind_in}
 use Rattle.reading.specs.Progress.{Progress, at_start, after}
 use Rattle.reading.specs.declared.kinds.Kind.{Kind}
 use Rattle.reading.specs.declared.kinds.Kind.TheVariants.{Account, Movement, Text, Equivalent as EquivalentKind, AccountEnd, FileEnd}
-use Rattle.table.specs.Rows.{held, Fills, revised}
 use Rattle.table.proofs.Filling.{onward, length-revised}
-use Rattle.rows.specs.Kept.{Rows, no_rows, sum, movements_of, texts_of}
+use Rattle.rows.specs.Kept.{Rows, no_rows, movements_of, texts_of}
 use Rattle.rows.specs.declared.accounts.AccountRow.{AccountRow}
 use Rattle.rows.specs.declared.movements.MovementRow.{MovementRow}
 use Rattle.rows.specs.declared.texts.TextRow.{TextRow}
 use Rattle.archiving.specs.Entering.{account_row, movement_row, text_row, one_movement_more, one_text_more, ended_with, converted_to, with_account, with_movement, with_text, with_equivalent, with_end, entered_as}
 use Rattle.archiving.specs.Filling.{Tables, rows_in, room_in, Holds}
-use Rattle.archiving.specs.Reads.{of_kind, entered, stopping, Outcome, at_end, unless_stopped, outcome, read_of}
+use Rattle.archiving.specs.Reads.{of_kind, entered, stopping, at_end, unless_stopped, outcome, read_of}
 use Rattle.archiving.specs.declared.refusals.ReadRefusal.{ReadRefusal}
 use Rattle.archiving.proofs.Counting.{sum_append, sum_revised}
 

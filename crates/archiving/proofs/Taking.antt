@@ -7,7 +7,6 @@ use Rattle.reading.specs.Progress.{Progress, refused}
 use Rattle.reading.specs.Taken.{kind_told, Tells}
 use Rattle.reading.specs.declared.entries.Entry.{Entry}
 use Rattle.reading.specs.declared.entries.Entry.TheVariants as entry
-use Rattle.reading.specs.declared.kinds.Kind.{Kind}
 use Rattle.reading.specs.declared.refusals.Refusal.{Refusal}
 use Rattle.rows.specs.Kept.{Rows}
 use Rattle.rows.specs.declared.tables.TableKind.{TableKind}
@@ -15,8 +14,7 @@ use Rattle.table.proofs.Filling.{standing}
 use Rattle.archiving.specs.Entering.{Room, entered_as, with_entry, lacking, Whole}
 use Rattle.archiving.specs.Filling.{Tables, rows_in, Holds}
 use Rattle.archiving.specs.Reads.{of_kind, entered, crowded, unless_taken, stopping}
-use Rattle.archiving.specs.declared.refusals.ReadRefusal.{ReadRefusal}
-use Rattle.archiving.specs.declared.refusals.ReadRefusal.TheVariants.{Reading, NoRow}
+use Rattle.archiving.specs.declared.refusals.ReadRefusal.TheVariants.{Reading}
 
 -- what a reading lends has its full width
 pub whole : (a : OpenAccount) (o : List ℕ) (e : Entry) → length o ≡ 80 → Tells a o e → Whole e

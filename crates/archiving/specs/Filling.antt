@@ -1,5 +1,5 @@
 -- The three tables, and what they hold. Assumes nothing.
-use Rattle.std.specs.Prelude.{◌≡◌, List, [], ◌∷◌, ◌++◌, length, Ok, Err, Result}
+use Rattle.std.specs.Prelude.{◌≡◌, length, Ok, Err, Result}
 use Rattle.table.specs.Rows.{held, Fills}
 use Rattle.rows.specs.Kept.{Rows}
 use Rattle.rows.specs.declared.accounts.AccountRow.{AccountRow}

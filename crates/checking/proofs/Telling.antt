@@ -11,7 +11,7 @@ use Rattle.media.specs.declared.framing.Framing.TheVariants.{Lines}
 use Rattle.rows.specs.declared.notices.Notice.{Notice}
 use Rattle.archiving.specs.Filling.{Tables, room_in, Holds}
 use Rattle.archiving.specs.Numbers.{read_notice}
-use Rattle.archiving.specs.Reads.{Outcome, read_of}
+use Rattle.archiving.specs.Reads.{read_of}
 use Rattle.checking.specs.Checks.{report_of, Checked}
 
 -- an input that is not too long, read as it is

@@ -1,11 +1,11 @@
 -- What `check` tells of an input, and what it leaves in the tables. Assumes nothing.
-use Rattle.std.specs.Prelude.{◌≡◌, ℕ, Bool, true, false, List, length, Some, None, Option, nat_le}
+use Rattle.std.specs.Prelude.{◌≡◌, ℕ, Bool, true, false, List, length, Some, nat_le}
 use Rattle.std.specs.Option.{option_map}
 use Rattle.std.specs.Result.{result_err}
 use Rattle.charset.specs.Pages.{page_850}
 use Rattle.charset.specs.Tables.{bytes_of}
 use Rattle.charset.specs.declared.code_table.CodeTable.{CodeTable}
-use Rattle.media.specs.Bytes.{Contents, contents}
+use Rattle.media.specs.Bytes.{contents}
 use Rattle.media.specs.declared.framing.Framing.TheVariants.{Lines}
 use Rattle.rows.specs.declared.notices.Layer.TheVariants as layer
 use Rattle.archiving.specs.Entering.{Room}

@@ -9,7 +9,7 @@ use Rattle.records.specs.Values.{account_in}
 use Rattle.reading.specs.Kinds.{last_number}
 use Rattle.reading.specs.Limits.{texts_of}
 use Rattle.reading.specs.Offers.{checks}
-use Rattle.reading.specs.Phases.{next, outside}
+use Rattle.reading.specs.Phases.{next}
 use Rattle.reading.specs.Taken.{begun, account_after}
 use Rattle.reading.specs.declared.kinds.Kind.{Kind}
 use Rattle.reading.specs.declared.kinds.Kind.TheVariants as kind

@@ -5,7 +5,6 @@ use Rattle.std.specs.List.{flat_map, AllByRecursion as All}
 use Rattle.std.proofs.lemmas.List.{append-nil, append_assoc}
 use Rattle.fields.specs.declared.keys.Key.{Key}
 use Rattle.fields.specs.declared.keys.Key.TheVariants.{Debit, Credit}
-use Rattle.fields.specs.declared.modalities.Modality.{Modality}
 use Rattle.values.specs.Balances.{turned}
 use Rattle.values.specs.declared.parts.AccountHead.{AccountHead}
 use Rattle.values.specs.declared.parts.Equivalent.{Equivalent}
@@ -13,7 +12,7 @@ use Rattle.values.specs.declared.parts.Movement.{Movement as MovementNumbers}
 use Rattle.values.specs.declared.parts.OpenAccount.{OpenAccount}
 use Rattle.records.specs.Checks.{columns}
 use Rattle.records.specs.Rules.{equivalent_checks}
-use Rattle.records.specs.Values.{number_at, key_at, modality_at, account_in, movement_in, equivalent_in}
+use Rattle.records.specs.Values.{number_at, key_at, account_in, movement_in, equivalent_in}
 use Rattle.reading.specs.Offers.{kind_in}
 use Rattle.reading.specs.Phases.{next}
 use Rattle.reading.specs.Progress.{Progress, at_start, moved, moved_to, after}
@@ -22,13 +21,12 @@ use Rattle.reading.specs.declared.kinds.Kind.{Kind}
 use Rattle.reading.specs.declared.kinds.Kind.TheVariants.{Account as AccountKind, Movement as MovementKind, Text, Equivalent as EquivalentKind, AccountEnd, FileEnd}
 use Rattle.reading.specs.declared.phases.Phase.{Phase}
 use Rattle.reading.specs.declared.phases.Phase.TheVariants.{Start, Between, Opened, Texts, Converted, Ended}
-use Rattle.table.specs.Rows.{revised}
 use Rattle.table.proofs.Filling.{revised_last}
 use Rattle.rows.specs.Kept.{Rows, no_rows}
 use Rattle.rows.specs.declared.accounts.AccountRow.{AccountRow}
 use Rattle.rows.specs.declared.movements.MovementRow.{MovementRow}
 use Rattle.rows.specs.declared.texts.TextRow.{TextRow}
-use Rattle.archiving.specs.Entering.{text_row, one_movement_more, one_text_more, converted_to, ended_with, with_end, entered_as}
+use Rattle.archiving.specs.Entering.{one_movement_more, one_text_more, converted_to, ended_with, with_end, entered_as}
 use Rattle.archiving.specs.Reads.{of_kind, entered}
 use Rattle.edition.proofs.Codes.{kind_there}
 use Rattle.guarantee.specs.KeptIn.{text_row_of, movement_row_of, account_row_of, texts_in, movements_in, account_texts_in, kept_rows}

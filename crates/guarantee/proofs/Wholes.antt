@@ -1,9 +1,8 @@
 -- Reads and writes of whole files. Assumes nothing.
-use Rattle.std.proofs.Common.{◌≡◌, ℕ, ◌+◌, ◌≤◌, Bool, true, false, ◌↔◌, List, [], ◌∷◌, ◌++◌, length, is_ok, Some, None, Ok, Err, Option, Result, sym, refl, ap, ◌∙◌, subst, append-nil, arith, length-append}
+use Rattle.std.proofs.Common.{◌≡◌, ℕ, ◌+◌, ◌≤◌, true, ◌↔◌, List, [], ◌∷◌, ◌++◌, length, is_ok, Some, None, Ok, Err, Option, Result, sym, refl, ap, ◌∙◌, subst, append-nil, arith, length-append}
 use Rattle.std.proofs.lemmas.Bool.{false≢true, le-leb}
 use Rattle.media.specs.declared.carriers.Ending.{Ending}
 use Rattle.media.specs.declared.carriers.Ending.TheVariants.{Clean, Broken}
-use Rattle.media.specs.declared.carriers.Fault.{Fault}
 use Rattle.reading.specs.Progress.{Progress, at_start, refused}
 use Rattle.reading.specs.Taken.{closing, unfinished}
 use Rattle.reading.specs.declared.phases.Phase.{Phase}
@@ -11,7 +10,7 @@ use Rattle.reading.specs.declared.phases.Phase.TheVariants.{Start, Between, Open
 use Rattle.reading.specs.declared.refusals.Refusal.{Refusal}
 use Rattle.rows.specs.Kept.{Rows, no_rows}
 use Rattle.archiving.specs.Entering.{Room}
-use Rattle.archiving.specs.Reads.{Outcome, counts, closed, at_end, read_of}
+use Rattle.archiving.specs.Reads.{Outcome, closed, at_end, read_of}
 use Rattle.archiving.specs.declared.reads.Counts.{Counts}
 use Rattle.archiving.specs.declared.refusals.ReadRefusal.{ReadRefusal}
 use Rattle.archiving.specs.declared.refusals.ReadRefusal.TheVariants.{Carrier, Reading}
@@ -21,7 +20,7 @@ use Rattle.recalling.specs.Writing.{records_of, placed, writing, Written}
 use Rattle.recalling.specs.declared.refusals.WriteRefusal.{WriteRefusal}
 use Rattle.guarantee.specs.Files.{CorrectFile, Begins}
 use Rattle.guarantee.specs.Promises.{RowForEach, FirstWrong, NamesRecord, early_end, ReadsWhole, WritesBack}
-use Rattle.guarantee.proofs.Offers.{first_begin, standing_all, accepted_all, FirstRefused, Offered, all_taken, one_refused, offered, refused_number, stopped_at}
+use Rattle.guarantee.proofs.Offers.{standing_all, accepted_all, Offered, all_taken, one_refused, offered, refused_number, stopped_at}
 use Rattle.guarantee.proofs.KeptChecks.{Accepted, file_checked}
 use Rattle.guarantee.proofs.KeptRecords.{file_again}
 use Rattle.guarantee.proofs.KeptRoom.{RoomFor, all_entered}

@@ -4,8 +4,6 @@ use Rattle.media.specs.declared.carriers.Ending.{Ending}
 use Rattle.media.specs.declared.carriers.Ending.TheVariants.{Clean, Broken}
 use Rattle.media.specs.declared.carriers.Fault.{Fault}
 use Rattle.reading.specs.declared.refusals.Cause.TheVariants.{Unfinished}
-use Rattle.reading.specs.declared.refusals.Refusal.{Refusal}
-use Rattle.rows.specs.Kept.{Rows}
 use Rattle.archiving.specs.Entering.{Room}
 use Rattle.archiving.specs.declared.reads.Counts.{Counts}
 use Rattle.archiving.specs.declared.refusals.ReadRefusal.{ReadRefusal}

@@ -10,7 +10,7 @@ use Rattle.values.specs.Balances.{final_amount}
 use Rattle.values.specs.declared.parts.OpenAccount.{OpenAccount}
 use Rattle.rows.specs.declared.accounts.AccountRow.{AccountRow}
 use Rattle.rows.specs.declared.movements.MovementRow.{MovementRow}
-use Rattle.recalling.specs.Caps.{capped, capped_account}
+use Rattle.recalling.specs.Caps.{capped_account}
 use Rattle.recalling.specs.Statements.{turned_over, close_of}
 
 still : (e : Unfit) (ps : List Part) → all_added (Err e) ps ≡ Err e

@@ -1,4 +1,3 @@
-use Rattle.std.proofs.Common.{arith}
 use Rattle.table.proofs.Filling.{revised_by}
 use Rattle.archiving.specs.Entering.{converted_to}
 use Rattle.archiving.proofs.entering.convert.Goals as goal

@@ -1,4 +1,3 @@
-use Rattle.std.proofs.Common.{arith}
 use Rattle.table.proofs.Filling.{revised_by}
 use Rattle.archiving.specs.Entering.{ended_with}
 use Rattle.archiving.proofs.entering.end.Goals as goal

@@ -1,4 +1,4 @@
-use Rattle.std.proofs.Common.{length, sym, refl, arith}
+use Rattle.std.proofs.Common.{length, refl, arith}
 use Rattle.std.proofs.lemmas.List.{length-take-le}
 use Rattle.std.proofs.lemmas.Bool.{lt-ltb}
 use Rattle.table.proofs.Filling.{pushed}

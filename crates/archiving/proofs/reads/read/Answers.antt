@@ -1,11 +1,11 @@
-use Rattle.std.proofs.Common.{◌≡◌, length, Err, sym, refl, ap, ◌∙◌, subst, arith}
+use Rattle.std.proofs.Common.{Err, sym, refl, ap, ◌∙◌, subst, arith}
 use Rattle.std.proofs.lemmas.Result.{err_from_is_err_and}
-use Rattle.media.proofs.Midway.{record_drawn, ending_drawn}
+use Rattle.media.proofs.Midway.{record_drawn}
 use Rattle.reading.specs.Progress.{progress}
 use Rattle.reading.proofs.Progress.{new_at_start}
-use Rattle.archiving.specs.Filling.{tables, rows_in, room_in, Holds}
+use Rattle.archiving.specs.Filling.{tables, Holds}
 use Rattle.archiving.specs.Reads.{Outcome, read_of}
-use Rattle.archiving.proofs.Midway.{from_empty, holds_is, same_room, start, more, stopped, ended}
+use Rattle.archiving.proofs.Midway.{from_empty, holds_is, same_room, start, more, stopped}
 use Rattle.archiving.proofs.Taking.{still}
 use Rattle.archiving.proofs.reads.read.Goals as goal
 

@@ -1,7 +1,7 @@
-use Rattle.std.proofs.Common.{◌≡◌, Some, None, sym, refl, ap, ◌∙◌, subst, arith}
+use Rattle.std.proofs.Common.{Some, None, sym, ap, ◌∙◌, subst, arith}
 use Rattle.std.specs.Result.{result_err}
 use Rattle.std.proofs.lemmas.Result.{err_from_is_err_and}
-use Rattle.reading.specs.Progress.{progress, refused}
+use Rattle.reading.specs.Progress.{progress}
 use Rattle.reading.proofs.Progress.{refused_is, moved_after}
 use Rattle.archiving.specs.Filling.{tables, rows_in, room_in, Holds}
 use Rattle.archiving.proofs.Taking.{whole, entered_by, stopped_by, refused_by, still}

@@ -1,4 +1,4 @@
-use Rattle.std.proofs.Common.{◌≡◌, ◌++◌, length, string_bytes, sym, refl, ap, ◌∙◌, arith}
+use Rattle.std.proofs.Common.{◌++◌, length, string_bytes, ap, ◌∙◌, arith}
 use lib.Utf8.{encode}
 use Rattle.checking.proofs.Justifying.{no_space, one_space_more, then_digits}
 use Rattle.checking.proofs.lines.justify.Goals as goal

@@ -1,4 +1,4 @@
-use Rattle.std.proofs.Common.{◌≡◌, sym, ◌∙◌, subst}
+use Rattle.std.proofs.Common.{◌∙◌}
 use Rattle.archiving.specs.Filling.{tables, room_in}
 use Rattle.archiving.proofs.Midway.{holds_is}
 use Rattle.guarantee.proofs.Wholes.{read_as_whole, rows_kept}

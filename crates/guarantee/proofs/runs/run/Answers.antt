@@ -1,4 +1,4 @@
-use Rattle.std.proofs.Common.{◌≡◌, ◌+◌, ◌<◌, ◌≤◌, [], length, take, sym, refl, ap, ◌∙◌, subst, arith, rules}
+use Rattle.std.proofs.Common.{◌≡◌, ◌<◌, [], length, take, sym, refl, ap, ◌∙◌, subst, arith, rules}
 use Rattle.std.specs.Result.{result_err}
 use Rattle.std.proofs.lemmas.List.{take_all}
 use Rattle.std.proofs.lemmas.Result.{err_from_is_err_and}
@@ -7,7 +7,7 @@ use Rattle.reading.specs.Taken.{refusal_of, closing}
 use Rattle.reading.proofs.Progress.{new_at_start}
 use Rattle.table.specs.Rows.{held, Fills}
 use Rattle.table.proofs.Filling.{standing}
-use Rattle.guarantee.specs.Runs.{Ran, Lawful}
+use Rattle.guarantee.specs.Runs.{Lawful}
 use Rattle.guarantee.proofs.Running.{Midway, started, made_more, offered, closed, ended, entered_more}
 use Rattle.guarantee.proofs.runs.run.Goals as goal
 use Rattle.guarantee.proofs.runs.run.Goals.{in-Offer, in-Close}

@@ -1,4 +1,4 @@
-use Rattle.std.proofs.Common.{◌≡◌, ℕ, List, [], ◌∷◌, ◌++◌, string_bytes, sym, refl, ap, ◌∙◌}
+use Rattle.std.proofs.Common.{ℕ, List, [], ◌∷◌, ◌++◌, sym, ap, ◌∙◌}
 use lib.Utf8.{encode}
 use Rattle.checking.specs.Lines.{justified, refusal_part}
 use Rattle.checking.proofs.Justifying.{appended, same_number}
