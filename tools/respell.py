@@ -14,7 +14,7 @@ import re
 import sys
 
 NAME = r"[^\s(){}\[\];:,«»λ.]+"
-DECLARED = re.compile(r"\s*(?:abbrev |unfoldable |mutual )?(?:pub )?(?:abbrev |unfoldable |data |record |ruleset )?(" + NAME + r")\s*:\s")
+DECLARED = re.compile(r"\s*(?:abbrev |unfoldable |mutual )?(?:pub )?(?:abbrev |unfoldable |data |record |ruleset )?(" + NAME + r"(?:\s+" + NAME + r")*)\s*:\s")
 PARAMETERS = re.compile(r"[({]((?:" + NAME + r"\s+)*" + NAME + r")\s*:\s")
 LET = re.compile(r"\blet (" + NAME + r")")
 TOKEN = re.compile(NAME)
@@ -45,12 +45,20 @@ def declared():
             line = line.split("--")[0] if line.lstrip().startswith("--") else line
             m = DECLARED.match(line)
             if m:
-                (goals if GENERATED.search(line) else found).add(m.group(1))
+                (goals if GENERATED.search(line) else found).update(m.group(1).split())
             if not GENERATED.search(line):
                 for m in PARAMETERS.finditer(line):
                     found.update(m.group(1).split())
                 found.update(LET.findall(line))
     return {n for n in found - goals if re.fullmatch(r"[a-z][A-Za-z0-9_'-]*", n) and "-" in n}, goals
+
+
+def renamed():
+    """The names with a dash that an import gives something."""
+    found = set()
+    for path in list(files(("specs", "proofs"), ".antt")) + list(files(("src",), ".rt")):
+        found.update(re.findall(r"\bas (" + NAME + ")", " ".join(re.findall(r"^[ \t]*(?:pub )?(?:ghost )?use [^;\n]*", read(path), re.M))))
+    return {n for n in found if re.fullmatch(r"[a-z][A-Za-z0-9_'-]*", n) and "-" in n}
 
 
 def spelled(names):
@@ -111,7 +119,7 @@ def taken(new):
 
 def main():
     names, _ = declared()
-    new = spelled(names)
+    new = spelled(names | renamed())
     if "--list" in sys.argv:
         for n in sorted(new):
             print(n, "->", new[n])

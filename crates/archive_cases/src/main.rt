@@ -1,7 +1,6 @@
 // Cases of reading into tables, of checking tables and of writing them: prints what each gives, to be compared.
 #![tactic(auto)]
 
-
 mod answers;
 mod carriers;
 mod changes;

@@ -1,6 +1,6 @@
 ghost use Rattle.std.specs.Prelude.{◌≡◌, ◌+◌, ◌≤◌, [], length, Ok};
 ghost use Rattle.composing.specs.Building.{so_far};
-ghost use Rattle.composing.specs.Parts.{spelled, plain, spaces as spaces-of, spelled_or_spaces, added};
+ghost use Rattle.composing.specs.Parts.{spelled, plain, spaces as spaces_of, spelled_or_spaces, added};
 
 use crate::refusals::Unfit;
 use fields::{write_blank, write_number};
@@ -57,7 +57,7 @@ impl Composer {
     /// The next columns are spaces.
     pub(crate) fn spaces(mut self, width: usize) -> Composer
         requires { self.filled + width ≤ 80 }
-        ensures parts { so_far result ≡ added (so_far self) (spaces-of width) }
+        ensures parts { so_far result ≡ added (so_far self) (spaces_of width) }
         ensures filled { result.filled ≡ self.filled + width }
     {
         let from = self.filled;

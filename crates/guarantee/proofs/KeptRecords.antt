@@ -26,7 +26,7 @@ use Rattle.reading.specs.Taken.{begun}
 use Rattle.reading.specs.declared.kinds.Kind.TheVariants.{Account as AccountKind, Movement as MovementKind, Text, Equivalent as EquivalentKind, AccountEnd, FileEnd}
 use Rattle.rows.specs.Kept.{texts_of}
 use Rattle.recalling.specs.Checking.{made_or_none, record_of}
-use Rattle.recalling.specs.Statements.{text_records, equivalent_records, movement_records as movement-layouts, movements_records as movements-layouts, debits_of as debits-in, credits_of as credits-in, close_of, account_records as account-layouts, accounts_records as accounts-layouts, before_end, statement_records}
+use Rattle.recalling.specs.Statements.{text_records, equivalent_records, movement_records as movement_layouts, movements_records as movements_layouts, debits_of as debits_in, credits_of as credits_in, close_of, account_records as account_layouts, accounts_records as accounts_layouts, before_end, statement_records}
 use Rattle.recalling.specs.Writing.{records_of}
 use Rattle.edition.proofs.Codes.{kind_there}
 use Rattle.edition.proofs.Left.{number_room}
@@ -135,12 +135,12 @@ module _ (h : AccountHead) where
       let stays = idle_stays h (key_at 28 r) (number_at 29 42 r) (amount_small h r long k.fields) in
       movement_restored r long (idle h) (kind_there r MovementKind k.code) (movement_passes (idle h) r k.fields (idle_counts h (key_at 28 r)) stays)
 
-  movement_spelled : (v : Movement) → CorrectMovement h v → Spelled (movement-layouts (movement_row_of h.modality v) (texts_in v)) (movement_records v)
+  movement_spelled : (v : Movement) → CorrectMovement h v → Spelled (movement_layouts (movement_row_of h.modality v) (texts_in v)) (movement_records v)
   movement_spelled v c =
       (main_spelled v.main c.main, spelled_append (text_records 0 (texts_in v)) (equivalent_records (option_map equivalent_in v.equivalent)) v.texts (if_any v.equivalent) (texts_spelled 0 v.texts c.texts) (equivalent_spelled h v.equivalent c.equivalent))
 
   -- each movement has its own texts again
-  movements_spelled : (vs : List Movement) → All (CorrectMovement h) vs → Spelled (movements-layouts (map (movement_row_of h.modality) vs) (flat_map texts_in vs)) (flat_map movement_records vs)
+  movements_spelled : (vs : List Movement) → All (CorrectMovement h) vs → Spelled (movements_layouts (map (movement_row_of h.modality) vs) (flat_map texts_in vs)) (flat_map movement_records vs)
   movements_spelled [] c = tt
   movements_spelled (v ∷ vs) c =
       let row = movement_row_of h.modality in
@@ -148,19 +148,19 @@ module _ (h : AccountHead) where
       let many = length-map v.texts text_row_of in
       let own = take_at (texts_in v) others (length v.texts) many in
       let left = drop_at (texts_in v) others (length v.texts) many in
-      let whole : movement-layouts (row v) (take (length v.texts) (texts_in v ++ others)) ++ movements-layouts (map row vs) (drop (length v.texts) (texts_in v ++ others)) ≡ movement-layouts (row v) (texts_in v) ++ movements-layouts (map row vs) others = λ i. movement-layouts (row v) (own i) ++ movements-layouts (map row vs) (left i) in
-      subst (λ ls. Spelled ls (flat_map movement_records (v ∷ vs))) (sym whole) (spelled_append (movement-layouts (row v) (texts_in v)) (movements-layouts (map row vs) others) (movement_records v) (flat_map movement_records vs) (movement_spelled v c.0) (movements_spelled vs c.1))
+      let whole : movement_layouts (row v) (take (length v.texts) (texts_in v ++ others)) ++ movements_layouts (map row vs) (drop (length v.texts) (texts_in v ++ others)) ≡ movement_layouts (row v) (texts_in v) ++ movements_layouts (map row vs) others = λ i. movement_layouts (row v) (own i) ++ movements_layouts (map row vs) (left i) in
+      subst (λ ls. Spelled ls (flat_map movement_records (v ∷ vs))) (sym whole) (spelled_append (movement_layouts (row v) (texts_in v)) (movements_layouts (map row vs) others) (movement_records v) (flat_map movement_records vs) (movement_spelled v c.0) (movements_spelled vs c.1))
 
 -- the counts and totals of the rows are those of the movements
-same_debits : (m : Modality) (vs : List Movement) → debits-in (map (movement_row_of m) vs) ≡ debits_of vs
+same_debits : (m : Modality) (vs : List Movement) → debits_in (map (movement_row_of m) vs) ≡ debits_of vs
 same_debits m [] = refl
 same_debits m (v ∷ vs) = ap (λ (t : Turnover). record { count = debit_of (key_at 28 v.main) 1 + t.count; total = debit_of (key_at 28 v.main) (number_at 29 42 v.main) + t.total }) (same_debits m vs)
 
-same_credits : (m : Modality) (vs : List Movement) → credits-in (map (movement_row_of m) vs) ≡ credits_of vs
+same_credits : (m : Modality) (vs : List Movement) → credits_in (map (movement_row_of m) vs) ≡ credits_of vs
 same_credits m [] = refl
 same_credits m (v ∷ vs) = ap (λ (t : Turnover). record { count = credit_of (key_at 28 v.main) 1 + t.count; total = credit_of (key_at 28 v.main) (number_at 29 42 v.main) + t.total }) (same_credits m vs)
 
-account_spelled : (a : Account) → CorrectAccount a → Spelled (account-layouts (account_row_of a) (movements_in a) (account_texts_in a)) (account_records a)
+account_spelled : (a : Account) → CorrectAccount a → Spelled (account_layouts (account_row_of a) (movements_in a) (account_texts_in a)) (account_records a)
 account_spelled a c =
     let h = account_in a.head in
     let key = key_at 59 a.end in
@@ -169,7 +169,7 @@ account_spelled a c =
     let close : close_of (account_row_of a) (movements_in a) ≡ closed (turned_over h a.movements) key = λ i. closed (record { head = h; debits = d i; credits = e i }) key in
     let end = account_end_restored a.end (keeps_long a.end c.end) (turned_over h a.movements) (kind_there a.end AccountEnd c.end.code) c.end.fields in (
       account_restored a.head (keeps_long a.head c.head) (kind_there a.head AccountKind c.head.code) c.head.fields,
-      spelled_append (movements-layouts (movements_in a) (account_texts_in a)) (account_end_layout (close_of (account_row_of a) (movements_in a)) ∷ []) (flat_map movement_records a.movements) (a.end ∷ []) (movements_spelled h a.movements c.movements) (ap (λ x. composed (account_end_layout x)) close ∙ end, tt),
+      spelled_append (movements_layouts (movements_in a) (account_texts_in a)) (account_end_layout (close_of (account_row_of a) (movements_in a)) ∷ []) (flat_map movement_records a.movements) (a.end ∷ []) (movements_spelled h a.movements c.movements) (ap (λ x. composed (account_end_layout x)) close ∙ end, tt),
     )
 
 -- each account has its own movements and their texts again
@@ -187,8 +187,8 @@ accounts_spelled (a ∷ accounts) c =
     let k = texts_of (take n (rows ++ others.movements)) in
     let own' = take_at texts others.texts k many in
     let left' = drop_at texts others.texts k many in
-    let whole : before_end (kept_rows (a ∷ accounts)) ≡ account-layouts (account_row_of a) rows texts ++ before_end others = λ i. account-layouts (account_row_of a) (own i) (own' i) ++ accounts-layouts others.accounts (left i) (left' i) in
-    subst (λ ls. Spelled ls (flat_map account_records (a ∷ accounts))) (sym whole) (spelled_append (account-layouts (account_row_of a) rows texts) (before_end others) (account_records a) (flat_map account_records accounts) (account_spelled a c.0) (accounts_spelled accounts c.1))
+    let whole : before_end (kept_rows (a ∷ accounts)) ≡ account_layouts (account_row_of a) rows texts ++ before_end others = λ i. account_layouts (account_row_of a) (own i) (own' i) ++ accounts_layouts others.accounts (left i) (left' i) in
+    subst (λ ls. Spelled ls (flat_map account_records (a ∷ accounts))) (sym whole) (spelled_append (account_layouts (account_row_of a) rows texts) (before_end others) (account_records a) (flat_map account_records accounts) (account_spelled a c.0) (accounts_spelled accounts c.1))
 
 pub file_spelled : (rs : List (List ℕ)) (f : CorrectFile rs) → Spelled (statement_records (kept_rows f.accounts)) rs
 file_spelled rs f =

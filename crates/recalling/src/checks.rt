@@ -1,6 +1,6 @@
 ghost use Rattle.std.specs.Prelude.{◌≡◌, ◌+◌, OnOk};
 ghost use Rattle.std.specs.Result.{result_err};
-ghost use Rattle.reading.specs.Progress.{progress, after as after-record};
+ghost use Rattle.reading.specs.Progress.{progress, after as after_record};
 ghost use Rattle.recalling.specs.Checking.{made_or_none, trying, offering, checking};
 ghost use Rattle.recalling.specs.Statements.{rows_lent};
 
@@ -19,7 +19,7 @@ fn offer_composed(
 ) -> Result<(), TableRefusal>
     requires { taken ≡ (progress reading.old).taken }
     ensures refusal { result_err result ≡ trying (progress reading.old) composed }
-    ensures after { OnOk result (progress reading.new ≡ after-record (progress reading.old) (made_or_none composed)) }
+    ensures after { OnOk result (progress reading.new ≡ after_record (progress reading.old) (made_or_none composed)) }
     ensures one_more { OnOk result ((progress reading.new).taken ≡ taken + 1) }
 {
     match composed {

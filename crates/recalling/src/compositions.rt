@@ -1,5 +1,5 @@
 ghost use Rattle.std.specs.Prelude.{◌≡◌, [], Some, None};
-ghost use Rattle.recalling.specs.Remaining.{Yields, attached as attached-records, remaining};
+ghost use Rattle.recalling.specs.Remaining.{Yields, attached as attached_records, remaining};
 ghost use Rattle.recalling.specs.Statements.{before_end, rows_lent};
 
 use crate::account_ends::compose_end;
@@ -44,7 +44,7 @@ impl<'a> Composition<'a> {
     // The next account begins.
     fn begin(&mut self) -> Option<Result<[u8; 80], Unfit>>
         requires outside { self.old.begun ≡ None }
-        requires detached { attached-records self.old.attached ≡ [] }
+        requires detached { attached_records self.old.attached ≡ [] }
         ensures { Yields (remaining self.old) (remaining self.new) result }
     {
         match self.accounts.split_first() {
@@ -66,7 +66,7 @@ impl<'a> Composition<'a> {
     // The next movement of the account begins, or the account ends.
     fn go_on(&mut self, begun: Begun<'a>) -> Result<[u8; 80], Unfit>
         requires inside { self.old.begun ≡ Some begun }
-        requires detached { attached-records self.old.attached ≡ [] }
+        requires detached { attached_records self.old.attached ≡ [] }
         ensures { Yields (remaining self.old) (remaining self.new) (Some result) }
     {
         match begun.left.split_first() {

@@ -1,7 +1,7 @@
 ghost use Rattle.std.specs.Prelude.{◌≡◌, ◌+◌, ◌-◌, ◌^◌, ◌<◌, ◌≤◌, length, IfOk, if◌then◌else◌, Some, None, OnOk};
 ghost use Rattle.std.specs.Result.{result_err};
 ghost use Rattle.fields.specs.Decimal.{value};
-ghost use Rattle.records.specs.Checks.{columns, judged, digits as digits_of, spaces as spaces-of, date as date-of, currency as currency-of, common_concept as concept-of, key as key_of, modality as modality_of, reference as reference-of};
+ghost use Rattle.records.specs.Checks.{columns, judged, digits as digits_of, spaces as spaces_of, date as date_of, currency as currency_of, common_concept as concept_of, key as key_of, modality as modality_of, reference as reference_of};
 ghost use Rattle.records.specs.Rules.{same};
 ghost use Rattle.records.specs.Values.{number_at, key_at, modality_at};
 
@@ -37,7 +37,7 @@ pub(crate) fn digits(offered: &[u8; 80], from: usize, to: usize) -> Result<u64, 
 // Columns `from` to `to` are spaces only.
 pub(crate) fn spaces(offered: &[u8; 80], from: usize, to: usize) -> Result<(), FieldRefusal>
     requires { (1 ≤ from) × ((from ≤ to) × (to ≤ 80)) }
-    ensures { result_err result ≡ judged (spaces-of from to) offered.now }
+    ensures { result_err result ≡ judged (spaces_of from to) offered.now }
 {
     if is_blank(&offered[from - 1..to]) {
         Ok(())
@@ -59,7 +59,7 @@ pub(crate) fn short_digits(offered: &[u8; 80], from: usize, to: usize) -> Result
 // A date, which is a real day.
 pub(crate) fn date(offered: &[u8; 80], from: usize, to: usize) -> Result<Date, FieldRefusal>
     requires { (1 ≤ from) × ((from ≤ to) × ((to ≤ 80) × (to ≤ from + 8))) }
-    ensures refusal { result_err result ≡ judged (date-of from to) offered.now }
+    ensures refusal { result_err result ≡ judged (date_of from to) offered.now }
     ensures day { IfOk result (λ d. d ≡ record { digits = value (columns from to offered.now) }) }
 {
     let date = Date {
@@ -75,7 +75,7 @@ pub(crate) fn date(offered: &[u8; 80], from: usize, to: usize) -> Result<Date, F
 // A code of the currencies.
 pub(crate) fn currency(offered: &[u8; 80], from: usize, to: usize) -> Result<u32, FieldRefusal>
     requires { (1 ≤ from) × ((from ≤ to) × ((to ≤ 80) × (to ≤ from + 8))) }
-    ensures refusal { result_err result ≡ judged (currency-of from to) offered.now }
+    ensures refusal { result_err result ≡ judged (currency_of from to) offered.now }
     ensures code { IfOk result (λ n. n ≡ value (columns from to offered.now)) }
 {
     let code = short_digits(offered, from, to)?;
@@ -93,7 +93,7 @@ pub(crate) fn common_concept(
     to: usize,
 ) -> Result<u32, FieldRefusal>
     requires { (1 ≤ from) × ((from ≤ to) × ((to ≤ 80) × (to ≤ from + 8))) }
-    ensures refusal { result_err result ≡ judged (concept-of from to) offered.now }
+    ensures refusal { result_err result ≡ judged (concept_of from to) offered.now }
     ensures code { IfOk result (λ n. n ≡ value (columns from to offered.now)) }
 {
     let code = short_digits(offered, from, to)?;
@@ -107,7 +107,7 @@ pub(crate) fn common_concept(
 // A reference that ends in its check digit.
 pub(crate) fn reference(offered: &[u8; 80], from: usize, to: usize) -> Result<u64, FieldRefusal>
     requires { (1 ≤ from) × ((from ≤ to) × ((to ≤ 80) × (to ≤ from + 18))) }
-    ensures refusal { result_err result ≡ judged (reference-of from to) offered.now }
+    ensures refusal { result_err result ≡ judged (reference_of from to) offered.now }
     ensures number { IfOk result (λ n. n ≡ value (columns from to offered.now)) }
 {
     let number = digits(offered, from, to)?;

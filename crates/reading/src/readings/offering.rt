@@ -4,7 +4,7 @@ ghost use Rattle.values.specs.Balances.{counts_in_limit, stays_in_limit, turned 
 ghost use Rattle.records.specs.Checks.{judged};
 ghost use Rattle.reading.specs.Limits.{texts_of};
 ghost use Rattle.reading.specs.Offers.{checks, cause_of};
-ghost use Rattle.reading.specs.Taken.{kind_told, Tells, InLimits, account_with, begun as begun-with, After, New, refusal_of, closing};
+ghost use Rattle.reading.specs.Taken.{kind_told, Tells, InLimits, account_with, begun as begun_with, After, New, refusal_of, closing};
 
 use crate::characters::first_bad;
 use crate::entries::Entry;
@@ -49,7 +49,7 @@ const NO_ACCOUNT: OpenAccount = OpenAccount {
 };
 
 fn begun(head: AccountHead) -> OpenAccount
-    ensures { result ≡ begun-with head }
+    ensures { result ≡ begun_with head }
 {
     OpenAccount {
         head,
