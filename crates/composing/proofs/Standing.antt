@@ -1,6 +1,6 @@
 -- The parts of a composition stand one behind the other. Assumes nothing.
 use Rattle.std.proofs.Common.{◌≡◌, ℕ, zero, suc, ◌+◌, ◌-◌, ◌^◌, ◌<◌, ◌≤◌, Bool, true, false, cond, ◌&&◌, List, [], ◌∷◌, ◌++◌, length, take, drop, replicate, IfOk, Ok, Err, Result, sym, refl, ap, ◌∙◌, subst, ⊎_elim, arith}
-use Rattle.std.specs.List.{flat_map, AllByRecursion as All}
+use Rattle.std.specs.List.{flat_map, AllByRecursion}
 use Rattle.std.proofs.ByRecursion.{All-append, All-drop}
 use Rattle.std.proofs.lemmas.List.{append-nil, append_assoc, length-append, length-replicate, take-append-drop, take_at, drop_at, take-take, drop-drop, drop-take}
 use Rattle.std.proofs.lemmas.Bool.{false≢true, ltb-true, and_parts, and_from, cases_lt}
@@ -29,7 +29,7 @@ abbrev pub spread : List Part → List ℕ
 spread ps = flat_map part_characters ps
 
 abbrev pub Fit : List Part → Type 0
-Fit ps = All (λ p. part_fits p ≡ true) ps
+Fit ps = AllByRecursion (λ p. part_fits p ≡ true) ps
 
 still : (e : Unfit) (ps : List Part) → all_added (Err e) ps ≡ Err e
 unfolding added

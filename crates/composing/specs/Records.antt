@@ -1,6 +1,6 @@
 -- The records that tell given values: what stands in their columns, which are counted from 1. Assumes nothing.
 use Rattle.std.specs.Prelude.{◌≡◌, ℕ, Bool, true, false, List, is_some, Some, None, codes, Option}
-use Rattle.std.specs.List.{AllByRecursion as All}
+use Rattle.std.specs.List.{AllByRecursion}
 use Rattle.charset.specs.Characters.{is_character}
 use Rattle.fields.specs.Blank.{blank}
 use Rattle.fields.specs.Decimal.{all_digits}
@@ -18,7 +18,7 @@ use Rattle.composing.specs.Layouts.{digit_or_zero}
 use Rattle.composing.specs.declared.account_ends.AccountClose.{AccountClose}
 
 abbrev pub Characters : List ℕ → Type 0
-Characters cs = All (λ b. is_character b ≡ true) cs
+Characters cs = AllByRecursion (λ b. is_character b ≡ true) cs
 
 -- a number that may be absent stands in digits, or its columns are blank
 abbrev pub Stands : ℕ → ℕ → Option ℕ → List ℕ → Type 0

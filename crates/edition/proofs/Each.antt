@@ -1,12 +1,12 @@
 -- A record passes its checks just if each of them holds. Assumes nothing.
 use Rattle.std.proofs.Common.{◌≡◌, ℕ, zero, suc, true, List, [], ◌∷◌, drop, None, sym, refl}
-use Rattle.std.specs.List.{AllByRecursion as All}
+use Rattle.std.specs.List.{AllByRecursion}
 use Rattle.std.proofs.ByRecursion.{All-drop}
 use Rattle.records.specs.Checks.{Check, judged, tested}
 use Rattle.records.proofs.Holding.{split, held}
 
 abbrev pub Passed : List Check → List ℕ → Type 0
-Passed cs r = All (λ c. c.holds r ≡ true) cs
+Passed cs r = AllByRecursion (λ c. c.holds r ≡ true) cs
 
 pub each_holds : (cs : List Check) (r : List ℕ) → judged cs r ≡ None → Passed cs r
 unfolding tested

@@ -1,6 +1,6 @@
 -- How what may still come changes with one record. Assumes nothing.
 use Rattle.std.proofs.Common.{◌≡◌, ℕ, ◌+◌, ◌≤◌, cond, List, [], ◌∷◌, ◌++◌, length, Some, None, Option, sym, refl, ap, ◌∙◌, subst, arith}
-use Rattle.std.specs.List.{flat_map, AllByRecursion as All}
+use Rattle.std.specs.List.{flat_map, AllByRecursion}
 use Rattle.std.proofs.lemmas.List.{append_assoc, length-append}
 use Rattle.std.proofs.lemmas.Bool.{lt-ltb}
 use Rattle.values.specs.declared.parts.OpenAccount.{OpenAccount}
@@ -41,7 +41,7 @@ counted n x xs =
 
 -- outside an account
 module _ (n : ℕ) (a : OpenAccount) (o : List ℕ) (rest : List (List ℕ)) where
-  account_next : (phase : Phase) → next phase kind.Account ≡ Some Opened → (x : Account) (xs : List Account) (end : List ℕ) → o ∷ rest ≡ flat_map account_records (x ∷ xs) ++ (end ∷ []) → All CorrectAccount (x ∷ xs) → Keeps (mark kind.FileEnd) (file_end_checks (n + length (flat_map account_records (x ∷ xs)))) end → n + length (flat_map account_records (x ∷ xs)) ≤ 999999 → Next phase n a o rest
+  account_next : (phase : Phase) → next phase kind.Account ≡ Some Opened → (x : Account) (xs : List Account) (end : List ℕ) → o ∷ rest ≡ flat_map account_records (x ∷ xs) ++ (end ∷ []) → AllByRecursion CorrectAccount (x ∷ xs) → Keeps (mark kind.FileEnd) (file_end_checks (n + length (flat_map account_records (x ∷ xs)))) end → n + length (flat_map account_records (x ∷ xs)) ≤ 999999 → Next phase n a o rest
   account_next phase may x xs end whole each last bound =
       let here : x.head ≡ o = cc in
       let there : rest ≡ ((flat_map movement_records x.movements ++ (x.end ∷ [])) ++ flat_map account_records xs) ++ (end ∷ []) = cc in
@@ -274,12 +274,12 @@ module _ (k n : ℕ) (a : OpenAccount) (o : List ℕ) (rest : List (List ℕ)) w
 pub next_of : (phase : Phase) (n : ℕ) (a : OpenAccount) (o : List ℕ) (rest : List (List ℕ)) → Coming phase n a (o ∷ rest) → Next phase n a o rest
 next_of Start n a o rest t = go t.0.accounts t.0.whole t.0.each t.0.last t.0.bound t.1
   where
-    go : (xs : List Account) → o ∷ rest ≡ flat_map account_records xs ++ (t.0.end ∷ []) → All CorrectAccount xs → Keeps (mark kind.FileEnd) (file_end_checks (n + length (flat_map account_records xs))) t.0.end → n + length (flat_map account_records xs) ≤ 999999 → 1 ≤ length xs → Next Start n a o rest
+    go : (xs : List Account) → o ∷ rest ≡ flat_map account_records xs ++ (t.0.end ∷ []) → AllByRecursion CorrectAccount xs → Keeps (mark kind.FileEnd) (file_end_checks (n + length (flat_map account_records xs))) t.0.end → n + length (flat_map account_records xs) ≤ 999999 → 1 ≤ length xs → Next Start n a o rest
     go [] whole each last bound some = absurd (omega arith)
     go (x ∷ xs) whole each last bound some = account_next n a o rest Start refl x xs t.0.end whole each last bound
 next_of Between n a o rest t = go t.accounts t.whole t.each t.last t.bound
   where
-    go : (xs : List Account) → o ∷ rest ≡ flat_map account_records xs ++ (t.end ∷ []) → All CorrectAccount xs → Keeps (mark kind.FileEnd) (file_end_checks (n + length (flat_map account_records xs))) t.end → n + length (flat_map account_records xs) ≤ 999999 → Next Between n a o rest
+    go : (xs : List Account) → o ∷ rest ≡ flat_map account_records xs ++ (t.end ∷ []) → AllByRecursion CorrectAccount xs → Keeps (mark kind.FileEnd) (file_end_checks (n + length (flat_map account_records xs))) t.end → n + length (flat_map account_records xs) ≤ 999999 → Next Between n a o rest
     go [] whole each last bound = file_end_next n a o rest t.end whole last bound
     go (x ∷ xs) whole each last bound = account_next n a o rest Between refl x xs t.end whole each last bound
 next_of Opened n a o rest t = in_account_next n a o rest Opened tt t

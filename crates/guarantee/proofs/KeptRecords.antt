@@ -2,7 +2,7 @@
 use Rattle.std.proofs.Common.{◌≡◌, ℕ, suc, ◌+◌, ◌≤◌, Bool, true, eqb, leb, List, [], ◌∷◌, ◌++◌, map, length, take, drop, Some, None, Ok, codes, Option, sym, refl, ap, ◌∙◌, subst, arith}
 use lib.ListN.{length-map}
 use Rattle.std.specs.Option.{option_map}
-use Rattle.std.specs.List.{flat_map, AllByRecursion as All}
+use Rattle.std.specs.List.{flat_map, AllByRecursion}
 use Rattle.std.proofs.lemmas.List.{take_at, drop_at}
 use Rattle.std.proofs.lemmas.Bool.{eqb-true, le-leb, and_parts, and_from}
 use Rattle.fields.specs.Decimal.{all_digits}
@@ -60,7 +60,7 @@ spelled_records [] (r ∷ rs) h = absurd h
 spelled_records (l ∷ ls) [] h = absurd h
 spelled_records (l ∷ ls) (r ∷ rs) h = λ i. made_or_none (h.0 i) ∷ spelled_records ls rs h.1 i
 
-pub spelled_each : (ls : List (List Part)) (rs : List (List ℕ)) → Spelled ls rs → All (λ l. composed l ≡ Ok (record_of l)) ls
+pub spelled_each : (ls : List (List Part)) (rs : List (List ℕ)) → Spelled ls rs → AllByRecursion (λ l. composed l ≡ Ok (record_of l)) ls
 spelled_each [] rs h = tt
 spelled_each (l ∷ ls) [] h = absurd h
 spelled_each (l ∷ ls) (r ∷ rs) h = (h.0 ∙ ap (λ x. Ok (made_or_none x)) (sym h.0), spelled_each ls rs h.1)
@@ -73,7 +73,7 @@ texts_spelled : (n : ℕ) (rs : List (List ℕ)) → Numbered n rs → Spelled (
 texts_spelled n [] c = tt
 texts_spelled n (r ∷ rs) c = (text_restored r (keeps_long r c.0) n (kind_there r Text c.0.code) c.0.fields, texts_spelled (n + 1) rs c.1)
 
-equivalent_spelled : (h : AccountHead) (x : Option (List ℕ)) → All (Keeps (codes "24") (equivalent_checks h)) (if_any x) → Spelled (equivalent_records (option_map equivalent_in x)) (if_any x)
+equivalent_spelled : (h : AccountHead) (x : Option (List ℕ)) → AllByRecursion (Keeps (codes "24") (equivalent_checks h)) (if_any x) → Spelled (equivalent_records (option_map equivalent_in x)) (if_any x)
 equivalent_spelled h None c = tt
 equivalent_spelled h (Some r) c = (equivalent_restored r (keeps_long r c.0) h (kind_there r EquivalentKind c.0.code) c.0.fields, tt)
 
@@ -140,7 +140,7 @@ module _ (h : AccountHead) where
       (main_spelled v.main c.main, spelled_append (text_records 0 (texts_in v)) (equivalent_records (option_map equivalent_in v.equivalent)) v.texts (if_any v.equivalent) (texts_spelled 0 v.texts c.texts) (equivalent_spelled h v.equivalent c.equivalent))
 
   -- each movement has its own texts again
-  movements_spelled : (vs : List Movement) → All (CorrectMovement h) vs → Spelled (movements_layouts (map (movement_row_of h.modality) vs) (flat_map texts_in vs)) (flat_map movement_records vs)
+  movements_spelled : (vs : List Movement) → AllByRecursion (CorrectMovement h) vs → Spelled (movements_layouts (map (movement_row_of h.modality) vs) (flat_map texts_in vs)) (flat_map movement_records vs)
   movements_spelled [] c = tt
   movements_spelled (v ∷ vs) c =
       let row = movement_row_of h.modality in
@@ -173,7 +173,7 @@ account_spelled a c =
     )
 
 -- each account has its own movements and their texts again
-accounts_spelled : (accounts : List Account) → All CorrectAccount accounts → Spelled (before_end (kept_rows accounts)) (flat_map account_records accounts)
+accounts_spelled : (accounts : List Account) → AllByRecursion CorrectAccount accounts → Spelled (before_end (kept_rows accounts)) (flat_map account_records accounts)
 accounts_spelled [] c = tt
 accounts_spelled (a ∷ accounts) c =
     let rows = movements_in a in
@@ -200,7 +200,7 @@ file_spelled rs f =
     subst (Spelled (statement_records (kept_rows f.accounts))) (sym f.whole) (spelled_append layouts (file_end_layout (length layouts) ∷ []) inner (f.end ∷ []) before (count ∙ end, tt))
 
 -- so every layout is composed, and its records are written again, as many as there were
-pub file_composed : (rs : List (List ℕ)) (f : CorrectFile rs) → All (λ l. composed l ≡ Ok (record_of l)) (statement_records (kept_rows f.accounts))
+pub file_composed : (rs : List (List ℕ)) (f : CorrectFile rs) → AllByRecursion (λ l. composed l ≡ Ok (record_of l)) (statement_records (kept_rows f.accounts))
 file_composed rs f = spelled_each (statement_records (kept_rows f.accounts)) rs (file_spelled rs f)
 
 pub file_again : (rs : List (List ℕ)) (f : CorrectFile rs) → records_of (statement_records (kept_rows f.accounts)) ≡ rs

@@ -1,7 +1,7 @@
 -- Reading a correct file enters just the rows that it is kept in. Assumes nothing.
 use Rattle.std.proofs.Common.{◌≡◌, ℕ, suc, ◌+◌, Bool, true, false, cond, ltb, List, [], ◌∷◌, ◌++◌, map, length, Some, None, codes, Option, sym, refl, ap, ◌∙◌, subst, arith}
 use Rattle.std.specs.Option.{option_map}
-use Rattle.std.specs.List.{flat_map, AllByRecursion as All}
+use Rattle.std.specs.List.{flat_map, AllByRecursion}
 use Rattle.std.proofs.lemmas.List.{append-nil, append_assoc}
 use Rattle.fields.specs.declared.keys.Key.{Key}
 use Rattle.fields.specs.declared.keys.Key.TheVariants.{Debit, Credit}
@@ -155,7 +155,7 @@ module _ (h : AccountHead) where
         (are_rows (one_enters p (with_last n None ts) r Text text_continues (kind_there r Text c.0.code) at) (ap (λ l. rows_of us l (ts ++ (text_row_of r ∷ []))) (revised_last one_text_more ms _)))
         (λ q in'. are_rows (texts_enter (n + 1) (k + 1) (ts ++ (text_row_of r ∷ [])) rs c.1 q in') (ap (λ m. with_last m None ((ts ++ (text_row_of r ∷ [])) ++ map text_row_of rs)) on ∙ ap (with_last (n + suc (length rs)) None) (append_assoc ts (text_row_of r ∷ []) (map text_row_of rs))))
 
-    equivalent_enters : (n : ℕ) (ts : List TextRow) (x : Option (List ℕ)) → All (Keeps (codes "24") (equivalent_checks h)) (if_any x) → (p : Progress) → Inside h p → Enters h p (with_last n None ts) (if_any x) (with_last n (option_map equivalent_in x) ts)
+    equivalent_enters : (n : ℕ) (ts : List TextRow) (x : Option (List ℕ)) → AllByRecursion (Keeps (codes "24") (equivalent_checks h)) (if_any x) → (p : Progress) → Inside h p → Enters h p (with_last n None ts) (if_any x) (with_last n (option_map equivalent_in x) ts)
     equivalent_enters n ts None c p at = record { inside = at; rows = refl }
     equivalent_enters n ts (Some r) c p at =
         are_rows (one_enters p (with_last n None ts) r EquivalentKind equivalent_continues (kind_there r EquivalentKind c.0.code) at) (ap (λ l. rows_of us l ts) (revised_last (converted_to (equivalent_in r)) ms _))
@@ -177,7 +177,7 @@ module _ (h : AccountHead) where
   abbrev with_open : List AccountRow → List ℕ → ℕ → List MovementRow → List TextRow → Rows
   with_open us name n ms ts = rows_of (us ++ (record { head = h; name = name; movements = n; final_key = None } ∷ [])) ms ts
 
-  movements_enter : (us : List AccountRow) (name : List ℕ) (n : ℕ) (ms : List MovementRow) (ts : List TextRow) (vs : List Movement) → All (CorrectMovement h) vs → (p : Progress) → Inside h p → Enters h p (with_open us name n ms ts) (flat_map movement_records vs) (with_open us name (n + length vs) (ms ++ map (movement_row_of h.modality) vs) (ts ++ flat_map texts_in vs))
+  movements_enter : (us : List AccountRow) (name : List ℕ) (n : ℕ) (ms : List MovementRow) (ts : List TextRow) (vs : List Movement) → AllByRecursion (CorrectMovement h) vs → (p : Progress) → Inside h p → Enters h p (with_open us name n ms ts) (flat_map movement_records vs) (with_open us name (n + length vs) (ms ++ map (movement_row_of h.modality) vs) (ts ++ flat_map texts_in vs))
   movements_enter us name n ms ts [] c p at =
       let none : n ≡ n + 0 = omega arith in
       let ms' = sym (append-nil ms) in
@@ -230,7 +230,7 @@ account_enters a c p t opens =
           ∙ (ap (with_end key) open'.rows ∙ (ap (λ us. rows_of us ms ts) (revised_last (ended_with key) t.accounts _) ∙ ap (λ n. rows_of (t.accounts ++ (row n ∷ [])) ms ts) many))),
     )
 
-accounts_enter : (accounts : List Account) → All CorrectAccount accounts → (p : Progress) (t : Rows) → next p.phase AccountKind ≡ Some Opened → entered_all p t (flat_map account_records accounts) ≡ beside t (kept_rows accounts)
+accounts_enter : (accounts : List Account) → AllByRecursion CorrectAccount accounts → (p : Progress) (t : Rows) → next p.phase AccountKind ≡ Some Opened → entered_all p t (flat_map account_records accounts) ≡ beside t (kept_rows accounts)
 accounts_enter [] c p t opens = sym (λ i. rows_of (append-nil t.accounts i) (append-nil t.movements i) (append-nil t.texts i))
 accounts_enter (a ∷ accounts) c p t opens =
     let first = account_enters a c.0 p t opens in

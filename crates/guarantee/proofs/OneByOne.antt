@@ -1,6 +1,6 @@
 -- The movements of a correct account, one by one. Assumes nothing.
 use Rattle.std.proofs.Common.{◌≡◌, ℕ, List, [], ◌∷◌, sym, refl, subst, arith}
-use Rattle.std.specs.List.{AllByRecursion as All}
+use Rattle.std.specs.List.{AllByRecursion}
 use Rattle.fields.specs.declared.keys.Key.{Key}
 use Rattle.fields.specs.declared.keys.Key.TheVariants.{Debit, Credit}
 use Rattle.values.specs.Balances.{turned}
@@ -17,7 +17,7 @@ turned_head a Debit n = refl
 turned_head a Credit n = refl
 
 -- movements that are correct and within the limits are so one by one, and back
-pub one_by_one : (a : OpenAccount) (ms : List Movement) → All (CorrectMovement a.head) ms → Within a ms → Movements a ms
+pub one_by_one : (a : OpenAccount) (ms : List Movement) → AllByRecursion (CorrectMovement a.head) ms → Within a ms → Movements a ms
 one_by_one a [] c w = tt
 one_by_one a (m ∷ ms) c w =
     let l = within_one a m ms w in
@@ -25,10 +25,10 @@ one_by_one a (m ∷ ms) c w =
     let main = c.0.main in (
       record { characters = main.characters; code = main.code; fields = (movement_passes m.main a).1 (l.0, main.fields) },
       subst (λ h. Details h 0 m.texts m.equivalent) same (record { texts = c.0.texts; few = omega (arith, c.0.few); equivalent = c.0.equivalent }),
-      one_by_one (turned_by a m.main) ms (subst (λ h. All (CorrectMovement h) ms) same c.1) l.1,
+      one_by_one (turned_by a m.main) ms (subst (λ h. AllByRecursion (CorrectMovement h) ms) same c.1) l.1,
     )
 
-pub all_together : (a : OpenAccount) (ms : List Movement) → Closable a → Movements a ms → All (CorrectMovement a.head) ms × Within a ms
+pub all_together : (a : OpenAccount) (ms : List Movement) → Closable a → Movements a ms → AllByRecursion (CorrectMovement a.head) ms × Within a ms
 all_together a [] c s = (tt, within_none a c.limits)
 all_together a (m ∷ ms) c s =
     let p = (movement_passes m.main a).0 s.0.fields in
@@ -37,7 +37,7 @@ all_together a (m ∷ ms) c s =
     let more = all_together (turned_by a m.main) ms (turned_closable a (key_at 28 m.main) (number_at 29 42 m.main) c p.0.0 p.0.1) s.2 in (
       (
         record { main = record { characters = s.0.characters; code = s.0.code; fields = p.1 }; texts = d.texts; few = omega (arith, d.few); equivalent = d.equivalent },
-        subst (λ h. All (CorrectMovement h) ms) same more.0,
+        subst (λ h. AllByRecursion (CorrectMovement h) ms) same more.0,
       ),
       within_more a m ms p.0 more.1,
     )

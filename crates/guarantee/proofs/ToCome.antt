@@ -1,7 +1,7 @@
 -- What may still come after the records that a reading took: the parts of a correct file that are left, counted on from
 -- what the reading holds. Assumes nothing.
 use Rattle.std.proofs.Common.{◌≡◌, ℕ, ◌+◌, ◌≤◌, List, [], ◌∷◌, ◌++◌, length, codes, Option}
-use Rattle.std.specs.List.{flat_map, AllByRecursion as All}
+use Rattle.std.specs.List.{flat_map, AllByRecursion}
 use Rattle.values.specs.declared.parts.AccountHead.{AccountHead}
 use Rattle.values.specs.declared.parts.OpenAccount.{OpenAccount}
 use Rattle.records.specs.Rules.{movement_checks, equivalent_checks, account_end_checks, file_end_checks}
@@ -15,7 +15,7 @@ use Rattle.guarantee.proofs.Turning.{turned_by, after_all}
 pub record Details (h : AccountHead) (k : ℕ) (more : List (List ℕ)) (last : Option (List ℕ)) : Type 0 where
   pub texts : Numbered k more
   pub few : k + length more ≤ 5
-  pub equivalent : All (Keeps (codes "24") (equivalent_checks h)) (if_any last)
+  pub equivalent : AllByRecursion (Keeps (codes "24") (equivalent_checks h)) (if_any last)
 
 -- movements one by one, each in the limits that the account leaves it
 abbrev pub Movements : OpenAccount → List Movement → Type 0
@@ -27,7 +27,7 @@ pub record Accounts (n : ℕ) (rest : List (List ℕ)) : Type 0 where
   pub accounts : List Account
   pub end : List ℕ
   pub whole : rest ≡ flat_map account_records accounts ++ (end ∷ [])
-  pub each : All CorrectAccount accounts
+  pub each : AllByRecursion CorrectAccount accounts
   pub last : Keeps (codes "88") (file_end_checks (n + length (flat_map account_records accounts))) end
   pub bound : n + length (flat_map account_records accounts) ≤ 999999
 

@@ -1,6 +1,6 @@
 -- The correct file, as a relation over a whole list of records. Assumes nothing.
 use Rattle.std.specs.Prelude.{◌≡◌, ℕ, ◌+◌, ◌≤◌, true, List, [], ◌∷◌, ◌++◌, length, Some, None, codes, Option}
-use Rattle.std.specs.List.{flat_map, AllByRecursion as All}
+use Rattle.std.specs.List.{flat_map, AllByRecursion}
 use Rattle.values.specs.Balances.{most, debit_of, credit_of, owed_to, owed_by}
 use Rattle.values.specs.declared.parts.AccountHead.{AccountHead}
 use Rattle.values.specs.declared.parts.OpenAccount.{OpenAccount}
@@ -44,7 +44,7 @@ pub record CorrectMovement (h : AccountHead) (m : Movement) : Type 0 where
   pub main : Keeps (codes "22") (movement_rules h) m.main
   pub texts : Numbered 0 m.texts
   pub few : length m.texts ≤ 5
-  pub equivalent : All (Keeps (codes "24") (equivalent_checks h)) (if_any m.equivalent)
+  pub equivalent : AllByRecursion (Keeps (codes "24") (equivalent_checks h)) (if_any m.equivalent)
 
 -- the debits and the credits among movements: how many, and their total
 abbrev pub debits_of : List Movement → Turnover
@@ -83,7 +83,7 @@ account_records a = a.head ∷ (flat_map movement_records a.movements ++ (a.end 
 -- the end agrees with the account in every field: its number, its counts and totals, its final balance, its currency
 pub record CorrectAccount (a : Account) : Type 0 where
   pub head : Keeps (codes "11") account_checks a.head
-  pub movements : All (CorrectMovement (account_in a.head)) a.movements
+  pub movements : AllByRecursion (CorrectMovement (account_in a.head)) a.movements
   pub limits : InLimits (account_in a.head) a.movements
   pub end : Keeps (codes "33") (account_end_checks (turned_over (account_in a.head) a.movements)) a.end
 
@@ -93,7 +93,7 @@ pub record CorrectFile (records : List (List ℕ)) : Type 0 where
   pub end : List ℕ
   pub whole : records ≡ flat_map account_records accounts ++ (end ∷ [])
   pub some : 1 ≤ length accounts
-  pub each : All CorrectAccount accounts
+  pub each : AllByRecursion CorrectAccount accounts
   pub last : Keeps (codes "88") (file_end_checks (length (flat_map account_records accounts))) end
   pub bound : length (flat_map account_records accounts) ≤ 999999
 

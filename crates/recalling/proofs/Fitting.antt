@@ -1,7 +1,7 @@
 -- The records of tables that pass the check are records. Assumes nothing.
 use Rattle.std.proofs.Common.{◌≡◌, ℕ, suc, ◌+◌, Bool, true, false, cond, eqb, List, [], ◌∷◌, length, Some, None, Ok, Err, Option, Result, refl, arith}
 use Rattle.std.specs.Option.{option_map}
-use Rattle.std.specs.List.{AllByRecursion as All}
+use Rattle.std.specs.List.{AllByRecursion}
 use Rattle.std.proofs.lemmas.List.{length-append}
 use Rattle.std.proofs.lemmas.Bool.{false≢true, and_from}
 use Rattle.charset.specs.Characters.{is_character}
@@ -55,7 +55,7 @@ tried p (Ok r) h = taken p r (none_mapped _ _ h)
 tried p (Err e) h = never _ h
 
 abbrev pub Fit : List (List Part) → Type 0
-Fit layouts = All (λ layout. is_record (record_of layout) ≡ true) layouts
+Fit layouts = AllByRecursion (λ layout. is_record (record_of layout) ≡ true) layouts
 
 fit_walked : (p : Progress) (layouts : List (List Part)) → walked p layouts ≡ None → Fit layouts
 fit_walked p [] h = tt
