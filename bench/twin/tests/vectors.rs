@@ -30,8 +30,8 @@ fn all_cases_print_the_expected_line() {
 
 #[test]
 fn the_sample_of_check_prints_its_line() {
-    let printed = twin::check(&data("check/stdin"));
-    assert_eq!(printed.into_bytes(), data("check/stdout"));
+    let printed = twin::check(&data("check_statement/stdin"));
+    assert_eq!(printed.into_bytes(), data("check_statement/stdout"));
 }
 
 #[test]
