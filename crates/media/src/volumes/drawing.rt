@@ -1,7 +1,6 @@
 ghost use Rattle.std.specs.Prelude.{◌≡◌, ◌+◌, ◌^◌, ◌<◌, length};
 ghost use Rattle.media.specs.Bytes.{told, standing, contents, Decodes};
 ghost use Rattle.media.specs.Volumes.{contents_of, looked};
-ghost use Rattle.media.specs.declared.framing.Framing.TheVariants.{Lines, Blocks};
 
 use crate::carriers::{Carrier, Fault};
 use crate::framing::{Framing, RECORD_LENGTH};
@@ -26,27 +25,15 @@ impl From<VolumeFault> for Fault {
 }
 
 impl<'a> Volume<'a> {
-    /// A volume of lines, as on disks.
-    pub fn lines(bytes: &'a [u8], table: CodeTable) -> Volume<'a>
-        ensures { contents_of result ≡ contents Lines table bytes.now 0 }
+    /// The volume that lies in the bytes: lines as on disks, or blocks as on tapes.
+    pub fn new(bytes: &'a [u8], framing: Framing, table: CodeTable) -> Volume<'a>
+        ensures { contents_of result ≡ contents framing table bytes.now 0 }
     {
         Volume {
             bytes,
             position: 0,
             table,
-            framing: Framing::Lines,
-        }
-    }
-
-    /// A volume of blocks, as on tapes.
-    pub fn blocks(bytes: &'a [u8], table: CodeTable) -> Volume<'a>
-        ensures { contents_of result ≡ contents Blocks table bytes.now 0 }
-    {
-        Volume {
-            bytes,
-            position: 0,
-            table,
-            framing: Framing::Blocks,
+            framing,
         }
     }
 
