@@ -44,20 +44,20 @@ impl Way {
     /// A volume over bytes that are written this way.
     pub fn volume(self, bytes: &[u8]) -> Volume<'_> {
         match self {
-            Way::Lines850 => Volume::lines(bytes, CodeTable::page_850()),
-            Way::Lines284 => Volume::lines(bytes, CodeTable::page_284()),
-            Way::Blocks850 => Volume::blocks(bytes, CodeTable::page_850()),
-            Way::Blocks284 => Volume::blocks(bytes, CodeTable::page_284()),
+            Way::Lines850 => Volume::new(bytes, Framing::Lines, CodeTable::page_850()),
+            Way::Lines284 => Volume::new(bytes, Framing::Lines, CodeTable::page_284()),
+            Way::Blocks850 => Volume::new(bytes, Framing::Blocks, CodeTable::page_850()),
+            Way::Blocks284 => Volume::new(bytes, Framing::Blocks, CodeTable::page_284()),
         }
     }
 
     /// An image over bytes that will be written this way.
     pub fn image(self, bytes: &mut [u8]) -> Image<'_> {
         match self {
-            Way::Lines850 => Image::lines(bytes, CodeTable::page_850()),
-            Way::Lines284 => Image::lines(bytes, CodeTable::page_284()),
-            Way::Blocks850 => Image::blocks(bytes, CodeTable::page_850()),
-            Way::Blocks284 => Image::blocks(bytes, CodeTable::page_284()),
+            Way::Lines850 => Image::new(bytes, Framing::Lines, CodeTable::page_850()),
+            Way::Lines284 => Image::new(bytes, Framing::Lines, CodeTable::page_284()),
+            Way::Blocks850 => Image::new(bytes, Framing::Blocks, CodeTable::page_850()),
+            Way::Blocks284 => Image::new(bytes, Framing::Blocks, CodeTable::page_284()),
         }
     }
 }
