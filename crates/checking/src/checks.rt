@@ -2,7 +2,7 @@ ghost use Rattle.archiving.specs.Filling.{tables};
 ghost use Rattle.checking.specs.Checks.{Checked};
 
 use crate::lines::Report;
-use charset::CodeTable;
+use charset::{CodePage, CodeTable};
 use guarantee::read;
 use media::{Framing, Volume};
 use rows::{AccountRow, Layer, MovementRow, Notice, TextRow};
@@ -33,7 +33,7 @@ pub fn check(
             movements: 0,
         };
     }
-    let mut volume = Volume::new(input, Framing::Lines, CodeTable::page_850());
+    let mut volume = Volume::new(input, Framing::Lines, CodeTable::from(CodePage::Page850));
     let notice = match read(&mut volume, accounts, movements, texts) {
         Ok(_) => None,
         Err(refusal) => Some(refusal.notice()),
