@@ -1,6 +1,5 @@
 use Rattle.std.proofs.Common.{◌≡◌, refl, ap, ◌∙◌, subst}
 use Rattle.rows.specs.Kept.{Rows}
-use Rattle.archiving.specs.Filling.{tables, rows_in}
 use Rattle.recalling.specs.Writing.{writing, Written}
 use Rattle.guarantee.proofs.Promised.{says, promised}
 use Rattle.guarantee.proofs.audits.audit.Goals as goal
@@ -12,8 +11,7 @@ returns g c =
     let w = c.write-written.ensures in
     let one = says _ _ _ _ _ _ f.whole f.kept in
     let two = says _ _ _ _ _ _ s.whole s.kept in
-    let kept = rows_in (tables c.read-first.new.accounts c.read-first.new.movements c.read-first.new.texts) in
-    let lent : ◌≡◌ {A = Rows} (record { accounts = c.rows.result.now; movements = c.rows-2.result.now; texts = c.rows-3.result.now }) kept = rw (c.rows.ensures, c.rows-2.ensures, c.rows-3.ensures) refl in
+    let lent = c.statement.ensures in
     let places = g.O.Output.places c.args.output.now in
     record {
       promises = promised _ one two _ _ _ c.run-ran.ensures.ran _ _ _ _ lent w.back;

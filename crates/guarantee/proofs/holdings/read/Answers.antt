@@ -1,5 +1,5 @@
 use Rattle.std.proofs.Common.{◌∙◌}
-use Rattle.archiving.specs.Filling.{tables, room_in}
+use Rattle.rows.specs.Tables.{room_in}
 use Rattle.archiving.proofs.Midway.{holds_is}
 use Rattle.guarantee.proofs.Wholes.{read_as_whole, rows_kept}
 use Rattle.guarantee.proofs.holdings.read.Goals as goal
@@ -7,7 +7,7 @@ use Rattle.guarantee.proofs.holdings.read.Goals as goal
 pub returns : goal.returns
 returns g c =
     let e = c.read.ensures in
-    let room = room_in (tables c.args.accounts.now c.args.movements.now c.args.texts.now) in
+    let room = room_in c.args.tables.now in
     let records = g.C.Carrier.records c.args.carrier.now in
     let ending = g.C.Carrier.ending c.args.carrier.now in
     record {

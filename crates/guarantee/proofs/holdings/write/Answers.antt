@@ -1,4 +1,4 @@
-use Rattle.recalling.specs.Statements.{rows_lent}
+use Rattle.rows.specs.Kept.{rows_lent}
 use Rattle.guarantee.proofs.Wholes.{writes_back}
 use Rattle.guarantee.proofs.holdings.write.Goals as goal
 
