@@ -31,6 +31,7 @@ pub fn write_number(field: &mut [u8], number: u64) -> Result<(), TooWide>
         return Err(TooWide);
     }
     let mut rest = number;
+    // by index: a proof knows nothing of what is written through a reversed `iter_mut`
     for place in (0..field.len()).rev() {
         field[place] = b'0' + (rest % 10) as u8;
         rest /= 10;
@@ -42,9 +43,7 @@ pub fn write_number(field: &mut [u8], number: u64) -> Result<(), TooWide>
 fn has_room(width: usize, number: u64) -> bool
     ensures { result ≡ fits width number }
 {
-    let mut rest = number;
-    for _place in 0..width {
-        rest /= 10;
-    }
-    rest == 0
+    number
+        .checked_ilog10()
+        .is_none_or(|power| (power as usize) < width)
 }
