@@ -41,9 +41,7 @@ impl<'a> Image<'a> {
         ensures behind { Behind self.old self.new place part.now }
         ensures lent { self.new.bytes.ghost_name ≡ self.old.bytes.ghost_name }
     {
-        for (i, byte) in part.iter().enumerate() {
-            self.bytes[place + i] = *byte;
-        }
+        self.bytes[place..place + part.len()].copy_from_slice(part);
     }
 
     /// How many bytes are written.
