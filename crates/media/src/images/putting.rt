@@ -11,12 +11,9 @@ use charset::CodeTable;
 fn encode_record(table: &CodeTable, offered: &[u8]) -> Option<[u8; RECORD_LENGTH]>
     ensures { Encodes table.now offered.now result }
 {
-    if offered.len() != RECORD_LENGTH {
-        return None;
-    }
-    let mut bytes = [0; RECORD_LENGTH];
-    for (i, character) in offered.iter().enumerate() {
-        bytes[i] = table.encode(*character)?;
+    let mut bytes = <[u8; RECORD_LENGTH]>::try_from(offered).ok()?;
+    for byte in &mut bytes {
+        *byte = table.encode(*byte)?;
     }
     Some(bytes)
 }
