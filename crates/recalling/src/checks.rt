@@ -35,10 +35,9 @@ fn offer_composed(
 fn offer_all(statement: &Statement) -> Result<u32, TableRefusal>
     ensures { result ≡ offering (rows_lent statement.now) }
 {
-    let mut composition = Composition::new(statement);
     let mut reading = Reading::new();
     let mut taken = 0;
-    while let Some(composed) = composition.next() {
+    for composed in Composition::new(statement) {
         offer_composed(&mut reading, taken, composed)?;
         taken += 1;
     }

@@ -43,8 +43,7 @@ fn put_records<O: Output>(
     ensures put { O.Output.put output.new ≡ O.Output.put output.old ++ records_of (statement_records (rows_lent statement.now)) }
     ensures places { O.Output.places output.new + records ≡ O.Output.places output.old }
 {
-    let mut composition = Composition::new(statement);
-    while let Some(composed) = composition.next() {
+    for composed in Composition::new(statement) {
         put_composed(output, composed)?;
     }
     put_composed(output, compose_file_end(records - 1))
