@@ -138,19 +138,13 @@ impl Reading {
         ensures tells { IfOk result (λ e. Tells self.old.account offered.now e) }
         ensures after { After self.old self.new offered.now result }
     {
-        let Ok(characters) = <&[u8; 80]>::try_from(offered) else {
-            return Err(Cause::Length);
-        };
+        let characters = <&[u8; 80]>::try_from(offered).map_err(|_| Cause::Length)?;
         if let Some(i) = first_bad(characters) {
             return Err(Cause::Character((i + 1) as u8));
         }
         let [first, second, _fields @ ..] = characters;
-        let Some(kind) = Kind::of_code(*first, *second) else {
-            return Err(Cause::Code);
-        };
-        let Some(phase) = self.phase.next(kind) else {
-            return Err(Cause::Order);
-        };
+        let kind = Kind::try_from([*first, *second])?;
+        let phase = self.phase.next(kind).ok_or(Cause::Order)?;
         if self.taken + 1 > kind.last_number() {
             return Err(Cause::RecordLimit);
         }
@@ -188,13 +182,9 @@ impl Reading {
         ensures tells { IfOk result (λ e. Tells self.old.account offered.now e) }
         ensures after { After self.old self.new offered.now result }
     {
-        match self.take(offered) {
-            Ok(entry) => Ok(entry),
-            Err(cause) => Err(Refusal {
-                cause,
-                record: self.next_number(),
-            }),
-        }
+        let record = self.next_number();
+        self.take(offered)
+            .map_err(|cause| Refusal { cause, record })
     }
 
     /// Whether the records taken are a whole file. It changes nothing.
