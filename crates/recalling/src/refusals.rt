@@ -3,7 +3,7 @@ ghost use Rattle.recalling.specs.Numbers.{table_notice, write_notice};
 ghost use Rattle.recalling.specs.declared.refusals.TableRefusal.TheVariants.{Refused};
 ghost use Rattle.recalling.specs.declared.refusals.WriteRefusal.TheVariants.{Tables};
 
-use reading::Refusal;
+use reading::{Refusal, Told};
 use rows::{Layer, Notice};
 
 /// Why tables are no statement.
@@ -54,7 +54,7 @@ impl From<TableRefusal> for Notice {
             TableRefusal::Texts => (Layer::Tables, 32, 0, 2),
             TableRefusal::Unfit(record, column) => (Layer::Tables, 33, record, column),
             TableRefusal::Refused(refusal) => {
-                let told = refusal.told();
+                let told = Told::from(refusal);
                 (Layer::Reading, told.number, told.record, told.column)
             }
         };
