@@ -11,6 +11,7 @@ use crate::changes::InMovement::{
 use crate::changes::{Change, Rows};
 use fields::{Key, Modality};
 use recalling::check_tables;
+use rows::Notice;
 
 // The most that fourteen digits spell.
 const MOST: u64 = 99_999_999_999_999;
@@ -214,10 +215,7 @@ fn show_cases(
             rows.change(*change);
         }
         print!(rt; "{case:?}: ")?;
-        let answer = match check_tables(&rows.statement()) {
-            Ok(records) => Ok(records),
-            Err(refusal) => Err(refusal.notice()),
-        };
+        let answer = check_tables(&rows.statement()).map_err(Notice::from);
         tell_records(rt, answer)?;
         println!(rt; "")?;
     }

@@ -6,7 +6,7 @@ use recalling::{check_tables, write};
 use rows::accounts::UNUSED_ACCOUNT;
 use rows::movements::UNUSED_MOVEMENT;
 use rows::texts::UNUSED_TEXT;
-use rows::{AccountRow, MovementRow, Statement, TextRow};
+use rows::{AccountRow, MovementRow, Notice, Statement, TextRow};
 use std::alloc::{AllocError, Global};
 use table::Table;
 
@@ -130,10 +130,7 @@ fn show_writes(rt: &HostRuntime, file: &[u8], statement: &Statement) -> anyhow::
 
 fn show_write(rt: &HostRuntime, statement: &Statement, bytes: &mut [u8]) -> anyhow::Result<()> {
     let mut image = Image::new(bytes, Framing::Blocks, CodeTable::from(CodePage::Page850));
-    let answer = match write(statement, &mut image) {
-        Ok(records) => Ok(records),
-        Err(refusal) => Err(refusal.notice()),
-    };
+    let answer = write(statement, &mut image).map_err(Notice::from);
     tell_records(rt, answer)?;
     println!(rt; "")?;
     Ok(())
@@ -192,10 +189,7 @@ fn show_check<'a>(
         movements,
         texts,
     };
-    let answer = match check_tables(&statement) {
-        Ok(records) => Ok(records),
-        Err(refusal) => Err(refusal.notice()),
-    };
+    let answer = check_tables(&statement).map_err(Notice::from);
     tell_records(rt, answer)?;
     println!(rt; "")?;
     Ok(())

@@ -4,7 +4,7 @@ use crate::sample::{blocks, lines};
 use charset::{CodePage, CodeTable};
 use media::{Framing, Image};
 use recalling::write;
-use rows::Statement;
+use rows::{Notice, Statement};
 
 // What an image holds before it is written.
 const MARK: u8 = b'#';
@@ -84,10 +84,7 @@ fn show_refused(rt: &HostRuntime, mut rows: Rows) -> anyhow::Result<()> {
 
 // Writes a statement, and gives how many bytes of the image are then written.
 fn show_write(rt: &HostRuntime, statement: &Statement, image: &mut Image) -> anyhow::Result<usize> {
-    let answer = match write(statement, image) {
-        Ok(records) => Ok(records),
-        Err(refusal) => Err(refusal.notice()),
-    };
+    let answer = write(statement, image).map_err(Notice::from);
     tell_records(rt, answer)?;
     let written = image.written();
     print!(rt; "; written {written}")?;

@@ -1,5 +1,5 @@
 -- The records that are still to come while a statement is composed. Assumes nothing.
-use Rattle.std.specs.Prelude.{◌≡◌, ℕ, List, [], ◌∷◌, ◌++◌, drop, Some, None, Option, Result}
+use Rattle.std.specs.Prelude.{◌≡◌, ℕ, List, [], ◌∷◌, ◌++◌, drop, Some, None, Option, Result, MatchOption}
 use Rattle.composing.specs.Layouts.{account_end_layout}
 use Rattle.composing.specs.Parts.{Part, composed}
 use Rattle.composing.specs.declared.refusals.Unfit.{Unfit}
@@ -12,10 +12,9 @@ use Rattle.recalling.specs.declared.attachments.Attachments.{Attachments}
 use Rattle.recalling.specs.declared.compositions.Begun.{Begun}
 use Rattle.recalling.specs.declared.compositions.Composition.{Composition}
 
--- the next record composed, and those still to come before and after it
-abbrev pub Yields : List (List Part) → List (List Part) → Option (Result (List ℕ) Unfit) → Type 0
-Yields before after None = (before ≡ []) × (after ≡ [])
-Yields before after (Some r) = (layout : List Part) × (before ≡ layout ∷ after) × (r ≡ composed layout)
+-- the library's YieldsFirst, where `rest` has the layout of each item: the item is that layout composed
+abbrev pub YieldsComposed : {S : Type 0} → (S → List (List Part)) → S → Option (Result (List ℕ) Unfit) → S → Type 0
+YieldsComposed rest s r t = MatchOption r ((rest s ≡ []) × (rest t ≡ [])) (λ made. (layout : List Part) × (rest s ≡ layout ∷ rest t) × (made ≡ composed layout))
 
 -- the texts and the equivalent of a movement that has begun
 abbrev pub attached : Attachments → List (List Part)

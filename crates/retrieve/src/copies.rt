@@ -5,10 +5,10 @@ use crate::ways::Way;
 use crate::wording::Many;
 use anyhow::anyhow;
 use guarantee::{read, write};
-use rows::Statement;
 use rows::accounts::UNUSED_ACCOUNT;
 use rows::movements::UNUSED_MOVEMENT;
 use rows::texts::UNUSED_TEXT;
+use rows::{Notice, Statement};
 use std::fs;
 use table::Table;
 
@@ -50,7 +50,7 @@ fn image_of(
     match write(statement, &mut image) {
         Ok(_) => Ok(bytes),
         Err(refusal) => {
-            tell_numbers(rt, refusal.notice())?;
+            tell_numbers(rt, Notice::from(refusal))?;
             Err(anyhow!("the copy is not written"))
         }
     }

@@ -19,10 +19,10 @@ use copies::make_copies;
 use holdings::{VolumeFile, most_rows, read_holding, tell_counts, tell_volumes};
 use notices::{tell_numbers, tell_refusal};
 use recalling::check_tables;
-use rows::Statement;
 use rows::accounts::UNUSED_ACCOUNT;
 use rows::movements::UNUSED_MOVEMENT;
 use rows::texts::UNUSED_TEXT;
+use rows::{Notice, Statement};
 use table::Table;
 use ways::Way;
 
@@ -90,7 +90,7 @@ fn copy_holding(rt: &HostRuntime, statement: &Statement) -> anyhow::Result<()> {
             make_copies(rt, statement, records)
         }
         Err(refusal) => {
-            tell_numbers(rt, refusal.notice())?;
+            tell_numbers(rt, Notice::from(refusal))?;
             Err(anyhow!("the tables are no statement"))
         }
     }
