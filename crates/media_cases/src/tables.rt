@@ -1,12 +1,12 @@
-use charset::CodeTable;
 use charset::characters::CHARACTERS;
+use charset::{CodePage, CodeTable};
 use std::io;
 
 pub fn show(rt: &HostRuntime) -> io::Result<()> {
     println!(rt; "page 850")?;
-    show_page(rt, &CodeTable::page_850())?;
+    show_page(rt, &CodeTable::from(CodePage::Page850))?;
     println!(rt; "page 284")?;
-    show_page(rt, &CodeTable::page_284())?;
+    show_page(rt, &CodeTable::from(CodePage::Page284))?;
     println!(rt; "made")?;
     let reversed: [u8; 58] = *b"\"=':?>_%,/-;)*&+(<.\xA5ZYXWVUTSRQPONMLKJIHGFEDCBA9876543210 A";
     show_making(rt, &reversed[0..57])?;
@@ -24,25 +24,17 @@ fn show_page(rt: &HostRuntime, table: &CodeTable) -> io::Result<()> {
         let back = table.decode(byte).unwrap_or(0);
         print!(rt; "{character:02X}-{byte:02X}-{back:02X} ")?;
     }
-    let mut none = 0u16;
-    for byte in 0..=255u8 {
-        if table.decode(byte).is_none() {
-            none = none.saturating_add(1);
-        }
-    }
+    let none = (0..=255)
+        .filter(|byte| table.decode(*byte).is_none())
+        .count();
     println!(rt; "none {none}")
 }
 
 fn show_making(rt: &HostRuntime, bytes: &[u8]) -> io::Result<()> {
-    let mut table = CodeTable::page_284();
+    let mut table = CodeTable::from(CodePage::Page284);
     match table.make(bytes) {
         Ok(()) => print!(rt; "made")?,
-        Err(refusal) => {
-            let number = refusal.number();
-            let place = refusal.place();
-            print!(rt; "{number} {place:?}")?;
-        }
+        Err(refusal) => print!(rt; "{} {:?}", refusal.number(), refusal.place())?,
     }
-    let space = table.encode(b' ');
-    println!(rt; ", space {space:?}")
+    println!(rt; ", space {:?}", table.encode(b' '))
 }
