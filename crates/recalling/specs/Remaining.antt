@@ -1,5 +1,5 @@
 -- The records that are still to come while a statement is composed. Assumes nothing.
-use Rattle.std.specs.Prelude.{◌≡◌, ℕ, List, [], ◌∷◌, ◌++◌, drop, Some, None, Option, Result, MatchOption}
+use Rattle.std.specs.Prelude.{ℕ, List, ◌∷◌, ◌++◌, drop, map, Some, None, Option, Result}
 use Rattle.composing.specs.Layouts.{account_end_layout}
 use Rattle.composing.specs.Parts.{Part, composed}
 use Rattle.composing.specs.declared.refusals.Unfit.{Unfit}
@@ -11,10 +11,6 @@ use Rattle.recalling.specs.Statements.{text_records, equivalent_records, movemen
 use Rattle.recalling.specs.declared.attachments.Attachments.{Attachments}
 use Rattle.recalling.specs.declared.compositions.Begun.{Begun}
 use Rattle.recalling.specs.declared.compositions.Composition.{Composition}
-
--- the library's YieldsFirst, where `rest` has the layout of each item: the item is that layout composed
-abbrev pub YieldsComposed : {S : Type 0} → (S → List (List Part)) → S → Option (Result (List ℕ) Unfit) → S → Type 0
-YieldsComposed rest s r t = MatchOption r ((rest s ≡ []) × (rest t ≡ [])) (λ made. (layout : List Part) × (rest s ≡ layout ∷ rest t) × (made ≡ composed layout))
 
 -- the texts and the equivalent of a movement that has begun
 abbrev pub attached : Attachments → List (List Part)
@@ -28,3 +24,10 @@ behind accounts movements texts (Some b) =
 
 unfoldable pub remaining : Composition → List (List Part)
 remaining c = attached c.attached ++ behind c.accounts.now c.movements.now c.texts.now c.begun
+
+-- what both iterators have left to yield: each layout composed
+abbrev pub attached_left : Attachments → List (Result (List ℕ) Unfit)
+attached_left a = map composed (attached a)
+
+abbrev pub left : Composition → List (Result (List ℕ) Unfit)
+left c = map composed (remaining c)

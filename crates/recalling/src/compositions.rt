@@ -1,5 +1,6 @@
 ghost use Rattle.std.specs.Prelude.{◌≡◌, [], Some, None};
-ghost use Rattle.recalling.specs.Remaining.{YieldsComposed, attached as attached_records, remaining};
+ghost use Rattle.std.specs.Iterator.{YieldsFirst};
+ghost use Rattle.recalling.specs.Remaining.{attached_left, remaining, left};
 ghost use Rattle.recalling.specs.Statements.{before_end, rows_lent};
 
 use crate::account_ends::compose_end;
@@ -44,8 +45,8 @@ impl<'a> Composition<'a> {
     // The next account begins.
     fn begin(&mut self) -> Option<Result<[u8; 80], Unfit>>
         requires outside { self.old.begun ≡ None }
-        requires detached { attached_records self.old.attached ≡ [] }
-        ensures { YieldsComposed remaining self.old result self.new }
+        requires detached { attached_left self.old.attached ≡ [] }
+        ensures { YieldsFirst left self.old result self.new }
     {
         let (row, accounts) = self.accounts.split_first()?;
         let (own, movements) = split_front(self.movements, row.movements);
@@ -62,8 +63,8 @@ impl<'a> Composition<'a> {
     // The next movement of the account begins, or the account ends.
     fn go_on(&mut self, begun: Begun<'a>) -> Result<[u8; 80], Unfit>
         requires inside { self.old.begun ≡ Some begun }
-        requires detached { attached_records self.old.attached ≡ [] }
-        ensures { YieldsComposed remaining self.old (Some result) self.new }
+        requires detached { attached_left self.old.attached ≡ [] }
+        ensures { YieldsFirst left self.old (Some result) self.new }
     {
         match begun.left.split_first() {
             Some((row, left)) => {
@@ -82,12 +83,12 @@ impl<'a> Composition<'a> {
 }
 
 impl<'a> Iterator for Composition<'a> {
-    ghost use Rattle.std.specs.Iterator.{item_count};
-    ghost use Rattle.recalling.specs.Remaining.{YieldsComposed, remaining as left};
+    ghost use Rattle.std.specs.Iterator.{YieldsFirst, item_count};
+    ghost use Rattle.recalling.specs.Remaining.{left};
 
     type Item = Result<[u8; 80], Unfit>;
 
-    ghost next_gives = { YieldsComposed left };
+    ghost next_gives = { YieldsFirst left };
 
     ghost remaining = { item_count left };
 

@@ -22,14 +22,14 @@ impl<'a> Attachments<'a> {
 }
 
 impl<'a> Iterator for Attachments<'a> {
-    ghost use Rattle.std.specs.Iterator.{item_count};
-    ghost use Rattle.recalling.specs.Remaining.{attached, YieldsComposed};
+    ghost use Rattle.std.specs.Iterator.{YieldsFirst, item_count};
+    ghost use Rattle.recalling.specs.Remaining.{attached_left};
 
     type Item = Result<[u8; 80], Unfit>;
 
-    ghost next_gives = { YieldsComposed attached };
+    ghost next_gives = { YieldsFirst attached_left };
 
-    ghost remaining = { item_count attached };
+    ghost remaining = { item_count attached_left };
 
     /// Composes the next record, if one is still to come.
     fn next(&mut self) -> Option<Result<[u8; 80], Unfit>> {

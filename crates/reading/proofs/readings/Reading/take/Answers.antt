@@ -5,6 +5,7 @@ use Rattle.reading.specs.Limits.{texts_of}
 use Rattle.reading.specs.Offers.{first_bad, kind_in, checks, field_cause}
 use Rattle.reading.specs.Phases.{next}
 use Rattle.reading.specs.Taken.{InLimits, Tells}
+use Rattle.reading.specs.declared.refusals.Cause.TheVariants.{Field}
 use Rattle.reading.proofs.Steps.{Limits, by_fields, numbered, few, in_limits, account_is, with_limits}
 use Rattle.reading.proofs.readings.Reading.take.Goals as goal
 use Rattle.reading.proofs.readings.Reading.take.Goals.{In_ok-phase, In_ok-entry}
@@ -24,6 +25,16 @@ is c = ap kind_in (sym (same c)) ∙ search rules
 
 may : (c : goal.In_ok-phase) → next c.args.self.now.phase c.in_ok-kind.kind ≡ Some c.in_ok-phase.phase
 may c = search rules
+
+pub returns-in_err-entry-clause-cause : goal.returns-in_err-entry-clause-cause
+returns-in_err-entry-clause-cause c =
+    let was = (goal.at.returns-in_err-entry-clause-cause c).In_ok-phase in
+    let s = c.args.self.now in
+    let fields = by_fields s.phase c.in_ok-phase.phase s.taken s.account c.args.offered.now c.in_ok-kind.kind (long was) (good was) (is was) (may was) (omega (arith, c.last_number.ensures, c.if-self-last_number.false)) in
+    let told : result_err c.from_residual-in_err-entry.result ≡ Some (Field c.in_err-entry.field-0.0) = search rules in
+    let refusal : Some c.in_err-entry.field-0.0 ≡ judged (checks c.in_ok-kind.kind (texts_of s.phase) s.taken s.account) c.args.offered.now =
+    sym (ap result_err c.in_err-entry.was) ∙ (c.entry.ensures.refusal ∙ ap (judged (checks c.in_ok-kind.kind (texts_of s.phase) s.taken s.account)) (same was)) in
+    told ∙ (ap field_cause refusal ∙ sym fields)
 
 -- the checks of the kind hold, and the entry is of that kind
 checked : (c : goal.In_ok-entry) → None ≡ judged (checks c.in_ok-kind.kind (texts_of c.args.self.now.phase) c.args.self.now.taken c.args.self.now.account) c.args.offered.now
