@@ -1,5 +1,5 @@
 -- A read that has come some way. Assumes nothing.
-use Rattle.std.proofs.Common.{◌≡◌, ℕ, ◌+◌, ◌≤◌, List, [], ◌∷◌, length, Bool, true, false, Some, None, Ok, Err, Option, Result, sym, refl, ap, ◌∙◌, subst, ap₂, arith, length-append}
+use Rattle.std.proofs.Common.{◌≡◌, ℕ, ◌+◌, ◌≤◌, List, [], ◌∷◌, length, Bool, true, Some, None, Ok, Err, Option, Result, sym, refl, ap, ◌∙◌, subst, ap₂, arith, length-append}
 use Rattle.fields.specs.declared.keys.Key.{Key}
 use Rattle.fields.specs.declared.modalities.Modality.{Modality}
 use Rattle.values.specs.declared.parts.Equivalent.{Equivalent}
@@ -7,7 +7,7 @@ use Rattle.records.specs.Checks.{columns}
 use Rattle.records.specs.Values.{key_at, account_in, movement_in, equivalent_in}
 use Rattle.media.proofs.Midway.{record_drawn}
 use Rattle.media.specs.Endings.{Ending}
-use Rattle.media.specs.Meaning.{Draws, none_drawn}
+use Rattle.media.specs.Meaning.{Draws}
 use Rattle.media.specs.declared.carriers.Fault.{Fault}
 use Rattle.reading.specs.Offers.{kind_in}
 use Rattle.reading.specs.Progress.{Progress, at_start, after}
@@ -125,19 +125,6 @@ come_to given emptied left all e o h is holds =
 -- a record that was drawn was the first one left
 pub drew : (rs : List (List ℕ)) (e : Ending) (left : List (List ℕ)) (into filled : List ℕ) (d : Result Bool Fault) → d ≡ Ok true → Draws rs e into left filled d → rs ≡ filled ∷ left
 drew rs e left into filled d is drawn = (record_drawn rs e left into filled true refl (subst (Draws rs e into left filled) is drawn)).0
-
--- where drawing gives no record, none was left
-pub none_left : (rs : List (List ℕ)) (e : Ending) (left : List (List ℕ)) (into filled : List ℕ) (d : Result Bool Fault) → (d ≡ Ok true → ⊥) → Draws rs e into left filled d → (rs ≡ []) × (left ≡ []) × (d ≡ none_drawn e)
-none_left [] e left into filled d none drawn = (refl, drawn.1, drawn.0)
-none_left (x ∷ rs) e left into filled d none drawn = absurd (none drawn.0)
-
-pub clean_there : (e : Ending) → Ok false ≡ none_drawn e → e ≡ Ok tt
-clean_there (Ok u) h = refl
-clean_there (Err fault) h = cc
-
-pub fault_there : (e : Ending) (fault : Fault) → Err fault ≡ none_drawn e → e ≡ Err fault
-fault_there (Ok u) fault h = cc
-fault_there (Err other) fault h = cc
 
 -- the records left are read, from here, as all are from the start
 pub record Midway (t₀ t : Tables) (p : Progress) (all left : List (List ℕ)) (e : Ending) : Type 0 where

@@ -86,10 +86,6 @@ module _ {A E : Type 0} (f : E → ReadRefusal) where
   told_ok (Ok b) a h = cc
   told_ok (Err e) a h = cc
 
-  pub told_err : (answer : Result A E) (x : ReadRefusal) → told_as f answer ≡ Err x → (e : E) × (answer ≡ Err e) × (x ≡ f e)
-  told_err (Ok b) x h = absurd (cc)
-  told_err (Err e) x h = (e, refl, (cc))
-
 pub stop_told : (n : ℕ) (entered : Result (Unit {0}) TableKind) → result_err (told_as (λ table. NoRow table n) entered) ≡ unless_taken n None (result_err entered)
 stop_told n (Ok u) = refl
 stop_told n (Err table) = refl

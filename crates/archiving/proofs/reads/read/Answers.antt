@@ -2,11 +2,10 @@ use Rattle.std.proofs.Common.{◌≡◌, Ok, Err, sym, refl, ap, ◌∙◌, subs
 use Rattle.std.proofs.lemmas.Result.{err_from_is_err_and}
 use Rattle.reading.specs.Progress.{progress}
 use Rattle.reading.proofs.Progress.{new_at_start}
-use Rattle.rows.specs.Tables.{rows_in, Holds}
-use Rattle.archiving.specs.Reads.{closed, at_end}
+use Rattle.rows.specs.Tables.{Holds}
 use Rattle.archiving.specs.declared.refusals.ReadRefusal.TheVariants.{Carrier}
-use Rattle.archiving.proofs.Midway.{holds_is, start, more, stopped, ended, come_to, drew, none_left, clean_there, fault_there}
-use Rattle.archiving.proofs.Taking.{still, told_as, told_by, told_ok, told_err}
+use Rattle.archiving.proofs.Midway.{holds_is, start, more, stopped, come_to, drew}
+use Rattle.archiving.proofs.Taking.{still, told_as, told_by, told_ok}
 use Rattle.archiving.proofs.reads.read.Given.{Over}
 use Rattle.archiving.proofs.reads.read.Goals as goal
 use Rattle.archiving.proofs.reads.read.Goals.{After-map_err, In_ok-map_err}
@@ -43,26 +42,3 @@ returns-in_err-take g c =
     let s = stopped inv.0 c.take.new.tables c.draw.new.into (g.C.Carrier.records c.draw.new.self) c.in_err-take.field-0.0 left stop.answer stop.tables in
     let o = come_to c.args.tables.now c.clear.new.self c.take.new.tables _ _ _ c.clear.ensures s.0 s.1 in
     record { answer = r.1 ∙ (ap Err r.2 ∙ o.0); tables = o.1; left = o.2; ending = c.draw.ensures.ending ∙ inv.2; volumes = c.draw.ensures.volumes ∙ inv.3 }
-
--- at the end of the carrier
-pub returns-in_err-map_err : goal.returns-in_err-map_err
-returns-in_err-map_err g c =
-    let inv = c.loop-reading.invariant in
-    let fault = told_err (λ fault. Carrier fault c.loop-reading.number) c.draw.result _ (sym (told g (goal.at.returns-in_err-map_err g c).After-map_err) ∙ c.in_err-map_err.was) in
-    let none = none_left _ _ _ _ _ c.draw.result (λ h. cc) c.draw.ensures.drawn in
-    let ending = fault_there (g.C.Carrier.ending c.loop-reading.carrier) fault.0 (sym fault.1 ∙ none.2) in
-    let r = err_from_is_err_and c.from_residual.result c.from_residual.ensures.1 in
-    let o = come_to c.args.tables.now c.clear.new.self c.loop-reading.tables _ _ _ c.clear.ensures (ended inv.0 none.0) inv.0.holds in
-    record { answer = r.1 ∙ (ap Err (r.2 ∙ (fault.2 ∙ ap (λ n. Carrier fault.0 n) inv.1)) ∙ (ap (at_end (progress c.loop-reading.reading) (rows_in c.loop-reading.tables)) (sym ending ∙ inv.2) ∙ o.0)); tables = o.1; left = none.1 ∙ o.2; ending = c.draw.ensures.ending ∙ inv.2; volumes = c.draw.ensures.volumes ∙ inv.3 }
-
-pub returns-in_err-close : goal.returns-in_err-close
-returns-in_err-close g c =
-    let inv = c.loop-reading.invariant in
-    let rows = rows_in c.loop-reading.tables in
-    let none_there = drawn_ok g (goal.at.returns-in_err-close g c).In_ok-map_err ∙ ap Ok c.if-branch.false in
-    let none = none_left _ _ _ _ _ c.draw.result (λ h. cc) c.draw.ensures.drawn in
-    let clean = clean_there (g.C.Carrier.ending c.loop-reading.carrier) (sym none_there ∙ none.2) in
-    let r = err_from_is_err_and c.from_residual-in_err-close.result c.from_residual-in_err-close.ensures.1 in
-    let o = come_to c.args.tables.now c.clear.new.self c.loop-reading.tables _ _ _ c.clear.ensures (ended inv.0 none.0) inv.0.holds in
-    let refused = ap (closed rows) (sym c.in_err-close.was ∙ c.close.ensures) in
-    record { answer = r.1 ∙ (ap Err r.2 ∙ (refused ∙ (ap (at_end (progress c.loop-reading.reading) rows) (sym clean ∙ inv.2) ∙ o.0))); tables = o.1; left = none.1 ∙ o.2; ending = c.draw.ensures.ending ∙ inv.2; volumes = c.draw.ensures.volumes ∙ inv.3 }

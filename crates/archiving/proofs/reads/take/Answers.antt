@@ -4,24 +4,19 @@ use Rattle.std.proofs.lemmas.Result.{err_from_is_err_and}
 use Rattle.reading.specs.Progress.{progress}
 use Rattle.reading.proofs.Progress.{refused_is, moved_after}
 use Rattle.rows.specs.Tables.{rows_in, room_in, Holds}
-use Rattle.archiving.proofs.Taking.{whole, entered_by, stopped_by, refused_by, still, told_by, stop_told, granted_told, on_any}
+use Rattle.archiving.proofs.Taking.{whole, entered_by, stopped_by, refused_by, told_by, stop_told, granted_told, on_any}
 use Rattle.archiving.specs.Entering.{granted}
 use Rattle.archiving.specs.Reads.{entered, unless_taken}
 use Rattle.archiving.specs.declared.refusals.ReadRefusal.TheVariants.{NoRow}
 use Rattle.archiving.proofs.reads.take.Goals as goal
 
-pub returns-in_err-entry : goal.returns-in_err-entry
-returns-in_err-entry c =
+pub returns-in_err-entry-clause-answer : goal.returns-in_err-entry-clause-answer
+returns-in_err-entry-clause-answer c =
     let s = c.args.reading.now in
     let t = c.args.tables.now in
     let r = err_from_is_err_and c.from_residual.result c.from_residual.ensures.1 in
     let refusal = sym (ap result_err c.in_err-entry.was) ∙ (c.offer.ensures.refusal ∙ refused_is s c.args.offered.now) in
-    record {
-      answer = ap result_err r.1 ∙ (ap Some r.2 ∙ refused_by (room_in t) (progress s) (rows_in t) c.args.offered.now c.in_err-entry.field-0.0 refusal);
-      tables = rw r.1 (still t);
-      reading = rw r.1 tt;
-      count = rw r.1 tt;
-    }
+    ap result_err r.1 ∙ (ap Some r.2 ∙ refused_by (room_in t) (progress s) (rows_in t) c.args.offered.now c.in_err-entry.field-0.0 refusal)
 
 pub enter-requires-clause-whole : goal.enter-requires-clause-whole
 enter-requires-clause-whole c = whole c.args.reading.now.account c.args.offered.now c.in_ok-entry.entry c.told-offered c.in_ok-entry.ensures.tells
