@@ -1,7 +1,8 @@
 -- Decimal fields of every width: what is written reads as it was, and what reads is written as it stood.
 -- Assumes nothing.
-use Rattle.std.proofs.Common.{◌≡◌, ℕ, zero, suc, ◌+◌, ◌-◌, ◌*◌, ◌/◌, ◌%◌, ◌^◌, ◌<◌, ◌≤◌, Bool, true, false, cond, ◌&&◌, ltb, leb, List, [], ◌∷◌, ◌++◌, length, get_or, drop, Some, None, Option, sym, refl, ap, ◌∙◌, ⊎_elim, add-zero, mul-le-mul_right, mul_assoc, pow-suc, zero-add, add-one, arith}
+use Rattle.std.proofs.Common.{◌≡◌, ℕ, IfNone, IfSome, IsTrue, MatchOption, zero, suc, ◌+◌, ◌-◌, ◌*◌, ◌/◌, ◌%◌, ◌^◌, ◌<◌, ◌≤◌, Bool, true, false, cond, ◌&&◌, ltb, leb, List, [], ◌∷◌, ◌++◌, length, get_or, drop, Some, None, Option, sym, refl, ap, ◌∙◌, ⊎_elim, add-zero, mul-le-mul_right, mul_assoc, pow-suc, zero-add, add-one, arith}
 use native.Mathlib.Nat.{pow-succ', pow-le-pow_right}
+use Rattle.std.proofs.Math.Nat.{one-le-pow}
 use Rattle.std.proofs.lemmas.List.{append-nil, append_assoc, length_push, drop_more, drop_all}
 use Rattle.std.proofs.lemmas.Bool.{leb-true, le-leb, lt-ltb, le-ltb, ltb-true, and_parts, and_from, and_right, cases_lt, cond-true, cond-false}
 use Rattle.fields.specs.Decimal.{is_digit, all_digits, value_from, value, number_from, number, fits, decimal, WrittenBack}
@@ -42,13 +43,22 @@ value_push : (n : ℕ) (bs : List ℕ) (b : ℕ) → value_from n (bs ++ (b ∷ 
 value_push n [] b = refl
 value_push n (c ∷ bs) b = value_push (10 * n + (c - 48)) bs b
 
--- the last digit takes one place
-pub fits_step : (w n : ℕ) → fits (suc w) n ≡ fits w (n / 10)
-fits_step w n =
+-- the power of ten of the first digit tells whether there is room
+power_room : (w n k : ℕ) → 10 ^ k ≤ n → n < 10 * 10 ^ k → ltb k w ≡ fits w n
+power_room w n k at_least below =
     ⊎_elim
-    (λ (h : n < 10 ^ suc w). lt-ltb n (10 ^ suc w) h ∙ sym (lt-ltb (n / 10) (10 ^ w) (omega (arith, pow-suc 10 w))))
-    (λ (h : 10 ^ suc w ≤ n). le-ltb n (10 ^ suc w) h ∙ sym (le-ltb (n / 10) (10 ^ w) (omega (arith, pow-suc 10 w))))
-    (cases_lt n (10 ^ suc w))
+    (λ (h : k < w).
+    let wide : 10 ^ suc k ≤ 10 ^ w = pow-le-pow_right (omega arith) h in
+    lt-ltb k w h ∙ sym (lt-ltb n (10 ^ w) (omega (arith, pow-suc 10 k))))
+    (λ (h : w ≤ k).
+    let short : 10 ^ w ≤ 10 ^ k = pow-le-pow_right (omega arith) h in
+    le-ltb k w h ∙ sym (le-ltb n (10 ^ w) (omega arith)))
+    (cases_lt k w)
+
+pub room : (w n : ℕ) (o : Option ℕ) (r : Bool) (P : ℕ → Type 0) → IfNone o (n ≡ 0) → IfSome o (λ k. 10 ^ k ≤ n) → IfSome o (λ k. n < 10 * 10 ^ k) → MatchOption o (IsTrue r) P → ((k : ℕ) → P k → r ≡ ltb k w) → r ≡ fits w n
+room w n None r P none at_least below h by =
+    h ∙ sym (lt-ltb n (10 ^ w) (omega (arith, one-le-pow w 10 (omega arith))))
+room w n (Some k) r P none at_least below h by = by k h ∙ power_room w n k at_least below
 
 pub value_decimal : (w n : ℕ) → n < 10 ^ w → value (decimal w n) ≡ n
 value_decimal zero n h = omega arith

@@ -7,12 +7,7 @@ const SPACE: u8 = b' ';
 pub fn is_blank(field: &[u8]) -> bool
     ensures { result ≡ blank field.now }
 {
-    for byte in field {
-        if *byte != SPACE {
-            return false;
-        }
-    }
-    true
+    field.iter().all(|byte| *byte == SPACE)
 }
 
 /// Fills a field with spaces.

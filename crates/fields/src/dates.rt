@@ -15,7 +15,7 @@ impl Date {
         let year = self.digits / 10_000;
         let month = self.digits / 100 % 100;
         let day = self.digits % 100;
-        year <= 99 && day >= 1 && day <= days_in_month(year, month)
+        year <= 99 && (1..=days_in_month(year, month)).contains(&day)
     }
 
     /// Whether this date is the other or a later one.

@@ -1,5 +1,9 @@
-ghost use Rattle.std.specs.Prelude.{◌≡◌, true, length, if◌then◌else◌, Some};
+ghost use Rattle.std.specs.Prelude.{◌≡◌, length, if◌then◌else◌, Some, OnOk, is_ok};
 ghost use Rattle.fields.specs.Decimal.{fits, decimal, number as number_in, WrittenBack};
+
+/// A number that has more digits than its field.
+#[derive(Clone, Copy, PartialEq, Eq, Debug)]
+pub struct TooWide;
 
 /// The number that a field spells in decimal digits, unless a byte is no digit or the number passes 64 bits.
 pub fn read_number(field: &[u8]) -> Option<u64>
@@ -18,29 +22,28 @@ pub fn read_number(field: &[u8]) -> Option<u64>
 
 /// Fills a field with a number in decimal digits, with zeros in front; one that has too many digits is refused, and
 /// leaves the field as it was.
-pub fn write_number(field: &mut [u8], number: u64) -> bool
-    ensures answer { result ≡ fits (length field.old) number }
+pub fn write_number(field: &mut [u8], number: u64) -> Result<(), TooWide>
+    ensures answer { is_ok result ≡ fits (length field.old) number }
     ensures written { field.new ≡ (if fits (length field.old) number then decimal (length field.old) number else field.old) }
-    ensures back { result ≡ true → number_in field.new ≡ Some number }
+    ensures back { OnOk result (number_in field.new ≡ Some number) }
 {
     if !has_room(field.len(), number) {
-        return false;
+        return Err(TooWide);
     }
     let mut rest = number;
+    // by index: a proof knows nothing of what is written through a reversed `iter_mut`
     for place in (0..field.len()).rev() {
         field[place] = b'0' + (rest % 10) as u8;
         rest /= 10;
     }
-    true
+    Ok(())
 }
 
 // Whether so many digits can spell a number.
 fn has_room(width: usize, number: u64) -> bool
     ensures { result ≡ fits width number }
 {
-    let mut rest = number;
-    for _place in 0..width {
-        rest /= 10;
-    }
-    rest == 0
+    number
+        .checked_ilog10()
+        .is_none_or(|power| (power as usize) < width)
 }

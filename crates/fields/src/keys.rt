@@ -1,5 +1,7 @@
-ghost use Rattle.std.specs.Prelude.{◌≡◌, Some, None};
-ghost use Rattle.fields.specs.Keys.{key_of, key_digit};
+ghost use Rattle.std.specs.Prelude.{◌≡◌, Some};
+ghost use Rattle.fields.specs.Keys.{key_of, key_digit, IsKeyOf};
+
+use crate::digits::UnknownDigit;
 
 /// The side of an amount: a debit is taken from the account, a credit is paid in.
 #[derive(Clone, Copy, PartialEq, Eq, Debug)]
@@ -8,25 +10,27 @@ pub enum Key {
     Credit,
 }
 
-impl Key {
-    /// The key that a digit stands for, if any.
-    pub fn from_digit(digit: u64) -> Option<Key>
-        ensures value { result ≡ key_of digit }
-        ensures back { elim result [ Some k ↦ key_digit k ≡ digit | None ↦ Unit {0} ] }
-    {
+/// The key that a digit stands for.
+impl TryFrom<u64> for Key {
+    type Error = UnknownDigit;
+
+    ghost try_from_gives = { IsKeyOf };
+
+    fn try_from(digit: u64) -> Result<Key, UnknownDigit> {
         match digit {
-            1 => Some(Key::Debit),
-            2 => Some(Key::Credit),
-            _ => None,
+            1 => Ok(Key::Debit),
+            2 => Ok(Key::Credit),
+            _ => Err(UnknownDigit),
         }
     }
+}
 
-    /// The digit of this key.
-    pub fn digit(self) -> u8
-        ensures value { result ≡ key_digit self }
-        ensures back { key_of result ≡ Some self }
-    {
-        match self {
+/// The digit of a key.
+impl From<Key> for u64 {
+    ghost from_gives = { λ key digit. (digit ≡ key_digit key) × (key_of digit ≡ Some key) };
+
+    fn from(key: Key) -> u64 {
+        match key {
             Key::Debit => 1,
             Key::Credit => 2,
         }

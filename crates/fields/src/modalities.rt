@@ -1,5 +1,7 @@
-ghost use Rattle.std.specs.Prelude.{◌≡◌, Some, None};
-ghost use Rattle.fields.specs.Modalities.{modality_of, modality_digit};
+ghost use Rattle.std.specs.Prelude.{◌≡◌, Some};
+ghost use Rattle.fields.specs.Modalities.{modality_of, modality_digit, IsModalityOf};
+
+use crate::digits::UnknownDigit;
 
 /// The modality of a statement: how much it tells of each movement.
 #[derive(Clone, Copy, PartialEq, Eq, Debug)]
@@ -9,26 +11,28 @@ pub enum Modality {
     Third,
 }
 
-impl Modality {
-    /// The modality that a digit stands for, if any.
-    pub fn from_digit(digit: u64) -> Option<Modality>
-        ensures value { result ≡ modality_of digit }
-        ensures back { elim result [ Some m ↦ modality_digit m ≡ digit | None ↦ Unit {0} ] }
-    {
+/// The modality that a digit stands for.
+impl TryFrom<u64> for Modality {
+    type Error = UnknownDigit;
+
+    ghost try_from_gives = { IsModalityOf };
+
+    fn try_from(digit: u64) -> Result<Modality, UnknownDigit> {
         match digit {
-            1 => Some(Modality::First),
-            2 => Some(Modality::Second),
-            3 => Some(Modality::Third),
-            _ => None,
+            1 => Ok(Modality::First),
+            2 => Ok(Modality::Second),
+            3 => Ok(Modality::Third),
+            _ => Err(UnknownDigit),
         }
     }
+}
 
-    /// The digit of this modality.
-    pub fn digit(self) -> u8
-        ensures value { result ≡ modality_digit self }
-        ensures back { modality_of result ≡ Some self }
-    {
-        match self {
+/// The digit of a modality.
+impl From<Modality> for u64 {
+    ghost from_gives = { λ modality digit. (digit ≡ modality_digit modality) × (modality_of digit ≡ Some modality) };
+
+    fn from(modality: Modality) -> u64 {
+        match modality {
             Modality::First => 1,
             Modality::Second => 2,
             Modality::Third => 3,

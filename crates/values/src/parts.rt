@@ -1,7 +1,7 @@
 use fields::{Date, Key, Modality};
 
 /// What names an account.
-#[derive(Clone, Copy)]
+#[derive(Clone, Copy, PartialEq, Eq, Debug)]
 pub struct AccountNumber {
     pub entity: u32,
     pub office: u32,
@@ -9,28 +9,28 @@ pub struct AccountNumber {
 }
 
 /// The days that a statement speaks of.
-#[derive(Clone, Copy)]
+#[derive(Clone, Copy, PartialEq, Eq, Debug)]
 pub struct Period {
     pub first: Date,
     pub last: Date,
 }
 
 /// A balance in hundredths; debit is negative.
-#[derive(Clone, Copy)]
+#[derive(Clone, Copy, PartialEq, Eq, Debug)]
 pub struct Balance {
     pub key: Key,
     pub amount: u64,
 }
 
 /// How many movements an account has on one side, and their total.
-#[derive(Clone, Copy)]
+#[derive(Clone, Copy, PartialEq, Eq, Debug, Default)]
 pub struct Turnover {
     pub count: u32,
     pub total: u64,
 }
 
 /// The numbers of an account record.
-#[derive(Clone, Copy)]
+#[derive(Clone, Copy, PartialEq, Eq, Debug)]
 pub struct AccountHead {
     pub number: AccountNumber,
     pub period: Period,
@@ -40,7 +40,7 @@ pub struct AccountHead {
 }
 
 /// An account whose end has not come: its head, and its movements so far.
-#[derive(Clone, Copy)]
+#[derive(Clone, Copy, PartialEq, Eq, Debug)]
 pub struct OpenAccount {
     pub head: AccountHead,
     pub debits: Turnover,
@@ -48,7 +48,7 @@ pub struct OpenAccount {
 }
 
 /// The numbers of a movement record.
-#[derive(Clone, Copy)]
+#[derive(Clone, Copy, PartialEq, Eq, Debug)]
 pub struct Movement {
     pub origin: Option<u32>,
     pub operation: Date,
@@ -62,14 +62,14 @@ pub struct Movement {
 }
 
 /// The amount of a movement in the currency that it came from.
-#[derive(Clone, Copy)]
+#[derive(Clone, Copy, PartialEq, Eq, Debug)]
 pub struct Equivalent {
     pub currency: u32,
     pub amount: u64,
 }
 
 /// The numbers of an account end.
-#[derive(Clone, Copy)]
+#[derive(Clone, Copy, PartialEq, Eq, Debug)]
 pub struct AccountEnd {
     pub number: AccountNumber,
     pub debits: Turnover,

@@ -1,23 +1,13 @@
-use Rattle.std.proofs.Common.{get_or, sym, ◌∙◌, arith}
-use Rattle.std.proofs.lemmas.List.{at_drop_all}
-use Rattle.std.proofs.lemmas.Bool.{eq-eqb, ne_eqb, and_left}
+use Rattle.std.proofs.Common.{◌&&◌, eqb, refl, ◌∙◌, rules, tests}
+use Rattle.std.specs.List.{list_all}
+use Rattle.std.proofs.lemmas.Iterator.{YieldsList-from_slice}
+use Rattle.std.proofs.lemmas.Iterator.Search.{all_from_yields_List}
+use Rattle.std.proofs.lemmas.List.Recursion.{same_from_clauses}
 use Rattle.fields.specs.Blank.{blank}
-use Rattle.fields.proofs.Blank.{blank_step}
 use Rattle.fields.proofs.blanks.is_blank.Goals as goal
 
-pub returns-then-byte-ne-SPACE : goal.returns-then-byte-ne-SPACE
-returns-then-byte-ne-SPACE c =
-    let field = c.args.field.now in
-    let i = c.loop-byte.byte-index in
-    let other = ne_eqb (get_or field i 0) 32 c.if-byte-ne-SPACE.true in
-    sym (and_left _ _ other) ∙ (sym (blank_step field i (omega arith)) ∙ c.loop-byte.invariant)
-
-pub loop-byte-preserved : goal.loop-byte-preserved
-loop-byte-preserved c =
-    let field = c.args.field.now in
-    let i = c.loop-byte.byte-index in
-    let space = eq-eqb (get_or field i 0) 32 c.if-byte-ne-SPACE.false in
-    sym (rw space at (blank_step field i (omega arith))) ∙ c.loop-byte.invariant
-
 pub returns : goal.returns
-returns c = sym (at_drop_all blank c.args.field.now c.loop-byte.byte-index (omega arith)) ∙ c.loop-byte.invariant
+returns c =
+    let field = c.args.field.now in
+    all_from_yields_List (λ b. eqb b 32) _ _ _ c.all.ensures.ran (YieldsList-from_slice field cc) (λ x b q k. search (rules, tests))
+    ∙ same_from_clauses (list_all (λ b. eqb b 32)) blank (λ b r. eqb b 32 && r) refl (λ _ _. refl) (λ _ _. refl) field

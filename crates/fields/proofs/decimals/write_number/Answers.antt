@@ -29,5 +29,5 @@ returns c =
     record {
       answer = sym room;
       written = same ∙ sym (cond-true (fits width n) _ _ room);
-      back = λ _. ap number same ∙ number_decimal width n (ltb-true n (10 ^ width) room) c.ranges.number.fits;
+      back = ap number same ∙ number_decimal width n (ltb-true n (10 ^ width) room) c.ranges.number.fits;
     }
