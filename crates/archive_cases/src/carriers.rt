@@ -1,7 +1,7 @@
 use crate::answers::show_carrier;
 use crate::sample::{blocks, lines};
-use charset::CodeTable;
-use media::{Joined, Volume};
+use charset::{CodePage, CodeTable};
+use media::{Framing, Joined, Volume};
 
 // The sample with a space behind it is cut to a length, and the byte at a place is changed.
 type Damage = (usize, usize, u8);
@@ -56,13 +56,19 @@ pub fn show(rt: &HostRuntime) -> anyhow::Result<()> {
     for damage in LINES {
         let bytes = damaged(lines(heap)?, damage)?;
         show_damage(rt, damage)?;
-        show_carrier(rt, &mut Volume::lines(&bytes, CodeTable::page_850()))?;
+        show_carrier(
+            rt,
+            &mut Volume::new(&bytes, Framing::Lines, CodeTable::from(CodePage::Page850)),
+        )?;
     }
     println!(rt; "blocks: length, place, byte")?;
     for damage in BLOCKS {
         let bytes = damaged(blocks(heap)?, damage)?;
         show_damage(rt, damage)?;
-        show_carrier(rt, &mut Volume::blocks(&bytes, CodeTable::page_850()))?;
+        show_carrier(
+            rt,
+            &mut Volume::new(&bytes, Framing::Blocks, CodeTable::from(CodePage::Page850)),
+        )?;
     }
     println!(rt; "three volumes of blocks, joined: divided at; length, place, byte")?;
     for (first, second, damage) in JOINED {
@@ -94,11 +100,11 @@ fn show_joined(rt: &HostRuntime, bytes: &[u8], first: usize, second: usize) -> a
     let (front, back) = bytes.split_at(bytes.len().min(second));
     let (front, middle) = front.split_at(front.len().min(first));
     let rest = Joined {
-        first: Volume::blocks(middle, CodeTable::page_850()),
-        second: Volume::blocks(back, CodeTable::page_850()),
+        first: Volume::new(middle, Framing::Blocks, CodeTable::from(CodePage::Page850)),
+        second: Volume::new(back, Framing::Blocks, CodeTable::from(CodePage::Page850)),
     };
     let mut holding = Joined {
-        first: Volume::blocks(front, CodeTable::page_850()),
+        first: Volume::new(front, Framing::Blocks, CodeTable::from(CodePage::Page850)),
         second: rest,
     };
     show_carrier(rt, &mut holding)

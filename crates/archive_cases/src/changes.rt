@@ -1,8 +1,8 @@
 use crate::sample::blocks;
 use archiving::read;
-use charset::CodeTable;
+use charset::{CodePage, CodeTable};
 use fields::{Date, Key, Modality};
-use media::Volume;
+use media::{Framing, Volume};
 use rows::accounts::UNUSED_ACCOUNT;
 use rows::movements::UNUSED_MOVEMENT;
 use rows::texts::UNUSED_TEXT;
@@ -121,7 +121,7 @@ fn fill(
     let mut accounts = Table::new(accounts);
     let mut movements = Table::new(movements);
     let mut texts = Table::new(texts);
-    let mut volume = Volume::blocks(file, CodeTable::page_850());
+    let mut volume = Volume::new(file, Framing::Blocks, CodeTable::from(CodePage::Page850));
     let _ = read(&mut volume, &mut accounts, &mut movements, &mut texts);
 }
 

@@ -1,7 +1,7 @@
 use crate::answers::{tell_read, tell_records};
 use archiving::read;
-use charset::CodeTable;
-use media::{Image, Volume};
+use charset::{CodePage, CodeTable};
+use media::{Framing, Image, Volume};
 use recalling::{check_tables, write};
 use rows::accounts::UNUSED_ACCOUNT;
 use rows::movements::UNUSED_MOVEMENT;
@@ -104,7 +104,7 @@ fn show_read(
     let mut accounts = Table::new(accounts);
     let mut movements = Table::new(movements);
     let mut texts = Table::new(texts);
-    let mut volume = Volume::blocks(file, CodeTable::page_850());
+    let mut volume = Volume::new(file, Framing::Blocks, CodeTable::from(CodePage::Page850));
     let answer = read(&mut volume, &mut accounts, &mut movements, &mut texts);
     tell_read(rt, answer)?;
     println!(rt; "")?;
@@ -129,7 +129,7 @@ fn show_writes(rt: &HostRuntime, file: &[u8], statement: &Statement) -> anyhow::
 }
 
 fn show_write(rt: &HostRuntime, statement: &Statement, bytes: &mut [u8]) -> anyhow::Result<()> {
-    let mut image = Image::blocks(bytes, CodeTable::page_850());
+    let mut image = Image::new(bytes, Framing::Blocks, CodeTable::from(CodePage::Page850));
     let answer = match write(statement, &mut image) {
         Ok(records) => Ok(records),
         Err(refusal) => Err(refusal.notice()),

@@ -1,8 +1,8 @@
 use crate::answers::tell_records;
 use crate::changes::{Change, InAccount, Rows};
 use crate::sample::{blocks, lines};
-use charset::CodeTable;
-use media::Image;
+use charset::{CodePage, CodeTable};
+use media::{Framing, Image};
 use recalling::write;
 use rows::Statement;
 
@@ -22,7 +22,11 @@ pub fn show(rt: &HostRuntime) -> anyhow::Result<()> {
     let file = lines(heap)?;
     for length in LINES {
         let mut bytes = vec![in heap; MARK; length]?;
-        let mut image = Image::lines(&mut bytes, CodeTable::page_850());
+        let mut image = Image::new(
+            &mut bytes,
+            Framing::Lines,
+            CodeTable::from(CodePage::Page850),
+        );
         print!(rt; "{length}: ")?;
         let written = show_write(rt, &statement, &mut image)?;
         show_bytes(rt, &file, &bytes, written)?;
@@ -31,7 +35,11 @@ pub fn show(rt: &HostRuntime) -> anyhow::Result<()> {
     let file = blocks(heap)?;
     for length in BLOCKS {
         let mut bytes = vec![in heap; MARK; length]?;
-        let mut image = Image::blocks(&mut bytes, CodeTable::page_850());
+        let mut image = Image::new(
+            &mut bytes,
+            Framing::Blocks,
+            CodeTable::from(CodePage::Page850),
+        );
         print!(rt; "{length}: ")?;
         let written = show_write(rt, &statement, &mut image)?;
         show_bytes(rt, &file, &bytes, written)?;
@@ -44,7 +52,11 @@ pub fn show(rt: &HostRuntime) -> anyhow::Result<()> {
 fn show_thrice(rt: &HostRuntime, statement: &Statement, mut file: Vec<u8>) -> anyhow::Result<()> {
     println!(rt; "three times to one image")?;
     let mut bytes = vec![in rt.alloc(); MARK; 1765]?;
-    let mut image = Image::blocks(&mut bytes, CodeTable::page_850());
+    let mut image = Image::new(
+        &mut bytes,
+        Framing::Blocks,
+        CodeTable::from(CodePage::Page850),
+    );
     let mut written = 0;
     for _ in 0..3 {
         written = show_write(rt, statement, &mut image)?;
@@ -61,7 +73,7 @@ fn show_thrice(rt: &HostRuntime, statement: &Statement, mut file: Vec<u8>) -> an
 fn show_refused(rt: &HostRuntime, mut rows: Rows) -> anyhow::Result<()> {
     println!(rt; "no statement, and no place")?;
     rows.change(Change::Account(0, InAccount::Entity(10_000)));
-    let mut image = Image::blocks(&mut [], CodeTable::page_850());
+    let mut image = Image::new(&mut [], Framing::Blocks, CodeTable::from(CodePage::Page850));
     show_write(rt, &rows.statement(), &mut image)?;
     println!(rt; "")?;
     rows.change(Change::Account(0, InAccount::Movements(1)));

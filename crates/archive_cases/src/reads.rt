@@ -1,7 +1,7 @@
 use crate::answers::{show_carrier, show_read};
 use crate::sample::blocks;
-use charset::CodeTable;
-use media::Volume;
+use charset::{CodePage, CodeTable};
+use media::{Framing, Volume};
 use rows::accounts::UNUSED_ACCOUNT;
 use rows::movements::UNUSED_MOVEMENT;
 use rows::texts::UNUSED_TEXT;
@@ -90,7 +90,7 @@ fn show_filling(
     let mut accounts = Table::new(accounts);
     let mut movements = Table::new(movements);
     let mut texts = Table::new(texts);
-    let mut volume = Volume::blocks(file, CodeTable::page_850());
+    let mut volume = Volume::new(file, Framing::Blocks, CodeTable::from(CodePage::Page850));
     show_read(rt, &mut volume, &mut accounts, &mut movements, &mut texts)?;
     let counted = match accounts.last() {
         Some((_, row)) => row.movements,
@@ -142,7 +142,10 @@ fn show_cuts(rt: &HostRuntime, file: &[u8]) -> anyhow::Result<()> {
     for records in CUTS {
         print!(rt; "{records}: ")?;
         let (front, _) = twice.split_at(twice.len().min(records.saturating_mul(80)));
-        show_carrier(rt, &mut Volume::blocks(front, CodeTable::page_850()))?;
+        show_carrier(
+            rt,
+            &mut Volume::new(front, Framing::Blocks, CodeTable::from(CodePage::Page850)),
+        )?;
     }
     Ok(())
 }
@@ -161,7 +164,7 @@ fn show_again(rt: &HostRuntime) -> anyhow::Result<()> {
             *changed = byte;
         }
         bytes.truncate(length);
-        let mut volume = Volume::blocks(&bytes, CodeTable::page_850());
+        let mut volume = Volume::new(&bytes, Framing::Blocks, CodeTable::from(CodePage::Page850));
         show_read(rt, &mut volume, &mut accounts, &mut movements, &mut texts)?;
         println!(rt; "")?;
     }
@@ -176,7 +179,7 @@ fn show_rest(rt: &HostRuntime, file: &[u8]) -> anyhow::Result<()> {
     let mut accounts = Table::new(&mut accounts);
     let mut movements = Table::new(&mut movements);
     let mut texts = Table::new(&mut texts);
-    let mut volume = Volume::blocks(file, CodeTable::page_850());
+    let mut volume = Volume::new(file, Framing::Blocks, CodeTable::from(CodePage::Page850));
     for _ in 0..5 {
         show_read(rt, &mut volume, &mut accounts, &mut movements, &mut texts)?;
         println!(rt; "")?;
@@ -187,7 +190,7 @@ fn show_rest(rt: &HostRuntime, file: &[u8]) -> anyhow::Result<()> {
 // The last record is cut off by one byte: the fault is told each time.
 fn show_broken(rt: &HostRuntime, file: &[u8]) -> anyhow::Result<()> {
     let (front, _) = file.split_at(file.len().saturating_sub(1));
-    let mut volume = Volume::blocks(front, CodeTable::page_850());
+    let mut volume = Volume::new(front, Framing::Blocks, CodeTable::from(CodePage::Page850));
     show_carrier(rt, &mut volume)?;
     show_carrier(rt, &mut volume)
 }

@@ -23,8 +23,5 @@ pub fn is_character(byte: u8) -> bool
 fn in_the_runs(byte: u8) -> bool
     ensures { result ≡ among byte characters }
 {
-    match byte {
-        b' ' | b'"' | b'%'..=b'?' | b'A'..=b'Z' | b'_' | ENYE => true,
-        _ => false,
-    }
+    matches!(byte, b' ' | b'"' | b'%'..=b'?' | b'A'..=b'Z' | b'_' | ENYE)
 }

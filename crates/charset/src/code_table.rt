@@ -9,6 +9,8 @@ mod making;
 mod pages;
 mod refusals;
 
+pub use pages::CodePage;
+
 /// A code table: which byte stands for each character on a carrier.
 #[derive(Clone, Copy)]
 pub struct CodeTable {

@@ -5,4 +5,4 @@ pub mod characters;
 pub mod code_table;
 
 pub use characters::is_character;
-pub use code_table::{CodeTable, CodeTableRefusal};
+pub use code_table::{CodePage, CodeTable, CodeTableRefusal};

@@ -2,9 +2,9 @@ ghost use Rattle.archiving.specs.Filling.{tables};
 ghost use Rattle.checking.specs.Checks.{Checked};
 
 use crate::lines::Report;
-use charset::CodeTable;
+use charset::{CodePage, CodeTable};
 use guarantee::read;
-use media::Volume;
+use media::{Framing, Volume};
 use rows::{AccountRow, Layer, MovementRow, Notice, TextRow};
 use table::Table;
 
@@ -33,7 +33,7 @@ pub fn check(
             movements: 0,
         };
     }
-    let mut volume = Volume::lines(input, CodeTable::page_850());
+    let mut volume = Volume::new(input, Framing::Lines, CodeTable::from(CodePage::Page850));
     let notice = match read(&mut volume, accounts, movements, texts) {
         Ok(_) => None,
         Err(refusal) => Some(refusal.notice()),

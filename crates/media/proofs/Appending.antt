@@ -8,16 +8,16 @@ use Rattle.std.proofs.lemmas.List.{take_at, drop_at, take-append-le, drop-append
 use Rattle.std.proofs.lemmas.Bool.{and_parts, eqb-true, ne_eqb, lt-ltb, both_ways, cases_lt, cases_eq}
 use Rattle.charset.specs.Tables.{decoded, encoded}
 use Rattle.charset.specs.declared.code_table.CodeTable.{CodeTable}
-use Rattle.media.specs.Bytes.{Contents, told, standing, read_all, before, contents_in, contents, is_clean, reads_clean}
+use Rattle.media.specs.Bytes.{Contents, standing, read_all, before, contents_in, contents, reads_clean}
 use Rattle.media.specs.Frames.{line_end, stride}
 use Rattle.media.specs.Images.{framed, bytes_after, Behind, places_left}
 use Rattle.media.specs.Meaning.{all_characters, is_record}
 use Rattle.media.specs.Translation.{translated, first_without}
 use Rattle.media.specs.declared.framing.Framing.{Framing}
 use Rattle.media.specs.declared.images.Image.{Image}
-use Rattle.media.specs.declared.carriers.Ending.{Ending}
-use Rattle.media.specs.declared.carriers.Ending.TheVariants.{Clean, Broken}
-use Rattle.media.specs.declared.volumes.VolumeFault.TheVariants.{Frame, Character}
+use Rattle.media.specs.Endings.{is_clean}
+use Rattle.media.specs.declared.volumes.VolumeFault.{VolumeFault}
+use Rattle.media.specs.declared.volumes.VolumeFault.TheVariants.{Frame}
 use Rattle.media.proofs.Scanning.{contents_step, stands_whole}
 use Rattle.media.proofs.Standing.{held, enough}
 use Rattle.media.proofs.Writing.{reads_again, part_length, two_parts}
@@ -34,7 +34,7 @@ module _ (f : Framing) (t : CodeTable) where
     frame_long = length-append (translated (encoded t) r) (line_end f) ∙ ap (λ n. n + length (line_end f)) text_long
 
     -- a record that is framed stands there
-    pub frame_stands : (p : ℕ) → standing f t (framed f t r) p ≡ Ok r
+    pub frame_stands : (p : ℕ) → standing f t (framed f t r) p ≡ Ok (Some r)
     frame_stands p =
         let front : take 80 (framed f t r) ≡ translated (encoded t) r = take_at (translated (encoded t) r) (line_end f) 80 text_long in
         let back : drop 80 (framed f t r) ≡ line_end f = drop_at (translated (encoded t) r) (line_end f) 80 text_long in
@@ -56,49 +56,50 @@ module _ (f : Framing) (t : CodeTable) where
       enough f t (rest ++ more) p (omega (arith, length-append rest more)) ∙ (rw (text, end) refl ∙ sym (enough f t rest p h))
 
   -- a volume ends clean only where no byte remains
-  ends_empty : (rest : List ℕ) (p : ℕ) (e : Ending) → standing f t rest p ≡ Err e → is_clean e ≡ true → length rest ≡ 0
-  ends_empty rest p e h c = ⊎_elim (λ short. below short) (λ long. absurd (beyond long)) (cases_lt (length rest) (stride f))
+  ends_empty : (rest : List ℕ) (p : ℕ) → standing f t rest p ≡ Ok None → length rest ≡ 0
+  ends_empty rest p h = ⊎_elim (λ short. below short) (λ long. absurd (beyond long)) (cases_lt (length rest) (stride f))
     where
       below : length rest < stride f → length rest ≡ 0
-      below short = ⊎_elim (λ z. z) (λ some. absurd (both_ways (is_clean e) (ap is_clean (broken_short some)) c)) (cases_eq (length rest) 0)
+      below short = ⊎_elim (λ z. z) (λ some. absurd (broken_short some)) (cases_eq (length rest) 0)
         where
-          broken_short : (length rest ≡ 0 → ⊥) → e ≡ Broken (told (Frame p))
-          broken_short some = let b : standing f t rest p ≡ Err (Broken (told (Frame p))) = rw (ne_eqb (length rest) 0 some, lt-ltb (length rest) (stride f) short) in cc
+          broken_short : (length rest ≡ 0 → ⊥) → ⊥
+          broken_short some = let b : standing f t rest p ≡ Err (Frame p) = rw (ne_eqb (length rest) 0 some, lt-ltb (length rest) (stride f) short) in cc
 
       beyond : stride f ≤ length rest → ⊥
       beyond long = go (bytes_eq (take (length (line_end f)) (drop 80 rest)) (line_end f)) (first_without (decoded t) (take 80 rest) 0) (sym (enough f t rest p long) ∙ h)
         where
-          go : (b : Bool) (o : Option ℕ) → cond b (read_all t (take 80 rest) p o) (Err (Broken (told (Frame (p + 80))))) ≡ Err e → ⊥
-          go true None x = let z : ◌≡◌ {A = ℕ} 0 1 = cc in omega arith
-          go true (Some i) x = both_ways (is_clean e) (ap is_clean (let y : e ≡ Broken (told (Character (p + i))) = cc in y)) c
-          go false o x = both_ways (is_clean e) (ap is_clean (let y : e ≡ Broken (told (Frame (p + 80))) = cc in y)) c
+          go : (b : Bool) (o : Option ℕ) → cond b (read_all t (take 80 rest) p o) (Err (Frame (p + 80))) ≡ Ok None → ⊥
+          go true None x = cc
+          go true (Some i) x = cc
+          go false o x = cc
 
   module _ (r : List ℕ) (is : is_record r ≡ true) where
     -- a record alone
-    alone : (p : ℕ) → contents f t (framed f t r) p ≡ record { records = r ∷ []; ending = Clean }
+    alone : (p : ℕ) → contents f t (framed f t r) p ≡ record { records = r ∷ []; ending = Ok tt }
     alone p =
         contents_step f t (framed f t r) p
         ∙ (ap (λ x. before x (contents f t (drop (stride f) (framed f t r)) (p + stride f))) (frame_stands r is p)
-        ∙ ap (λ l. before (Ok r) (contents f t l (p + stride f))) (drop_all (stride f) (framed f t r) (omega (arith, frame_long r is))))
+        ∙ ap (λ l. before (Ok (Some r)) (contents f t l (p + stride f))) (drop_all (stride f) (framed f t r) (omega (arith, frame_long r is))))
 
-    push_from : (n : ℕ) (rest : List ℕ) (p : ℕ) → length rest ≤ n → is_clean (contents_in n f t rest p).ending ≡ true → contents f t (rest ++ framed f t r) p ≡ record { records = (contents_in n f t rest p).records ++ (r ∷ []); ending = Clean }
+    push_from : (n : ℕ) (rest : List ℕ) (p : ℕ) → length rest ≤ n → is_clean (contents_in n f t rest p).ending ≡ true → contents f t (rest ++ framed f t r) p ≡ record { records = (contents_in n f t rest p).records ++ (r ∷ []); ending = Ok tt }
     push_from zero rest p h c = ap (λ l. contents f t (l ++ framed f t r) p) (nil_from_length rest (omega arith)) ∙ alone p
     push_from (suc n) rest p h c = go (standing f t rest p) refl (push_from n (drop (stride f) rest) (p + stride f)) c
       where
-        go : (s : Result (List ℕ) Ending) → standing f t rest p ≡ s
-            → (length (drop (stride f) rest) ≤ n → is_clean (contents_in n f t (drop (stride f) rest) (p + stride f)).ending ≡ true → contents f t (drop (stride f) rest ++ framed f t r) (p + stride f) ≡ record { records = (contents_in n f t (drop (stride f) rest) (p + stride f)).records ++ (r ∷ []); ending = Clean })
+        go : (s : Result (Option (List ℕ)) VolumeFault) → standing f t rest p ≡ s
+            → (length (drop (stride f) rest) ≤ n → is_clean (contents_in n f t (drop (stride f) rest) (p + stride f)).ending ≡ true → contents f t (drop (stride f) rest ++ framed f t r) (p + stride f) ≡ record { records = (contents_in n f t (drop (stride f) rest) (p + stride f)).records ++ (r ∷ []); ending = Ok tt })
             → is_clean (before s (contents_in n f t (drop (stride f) rest) (p + stride f))).ending ≡ true
-            → contents f t (rest ++ framed f t r) p ≡ record { records = (before s (contents_in n f t (drop (stride f) rest) (p + stride f))).records ++ (r ∷ []); ending = Clean }
-        go (Ok x) e later k =
+            → contents f t (rest ++ framed f t r) p ≡ record { records = (before s (contents_in n f t (drop (stride f) rest) (p + stride f))).records ++ (r ∷ []); ending = Ok tt }
+        go (Ok (Some x)) e later k =
             let long = (stands_whole f t rest p x e).0 in
             contents_step f t (rest ++ framed f t r) p
             ∙ (ap (λ y. before y (contents f t (drop (stride f) (rest ++ framed f t r)) (p + stride f))) (stands_still rest (framed f t r) p long ∙ e)
-            ∙ (ap (λ l. before (Ok x) (contents f t l (p + stride f))) (drop-append-le (stride f) rest (framed f t r) long)
-            ∙ ap (before (Ok x)) (later (omega (arith, length-drop (stride f) rest)) k)))
-        go (Err x) e later k = ap (λ l. contents f t (l ++ framed f t r) p) (nil_from_length rest (ends_empty rest p x e k)) ∙ alone p
+            ∙ (ap (λ l. before (Ok (Some x)) (contents f t l (p + stride f))) (drop-append-le (stride f) rest (framed f t r) long)
+            ∙ ap (before (Ok (Some x))) (later (omega (arith, length-drop (stride f) rest)) k)))
+        go (Ok None) e later k = ap (λ l. contents f t (l ++ framed f t r) p) (nil_from_length rest (ends_empty rest p e)) ∙ alone p
+        go (Err x) e later k = absurd (both_ways false refl k)
 
     -- after whole records it is one more
-    pub push : (rest : List ℕ) → reads_clean f t rest ≡ true → contents f t (rest ++ framed f t r) 0 ≡ record { records = (contents f t rest 0).records ++ (r ∷ []); ending = Clean }
+    pub push : (rest : List ℕ) → reads_clean f t rest ≡ true → contents f t (rest ++ framed f t r) 0 ≡ record { records = (contents f t rest 0).records ++ (r ∷ []); ending = Ok tt }
     push rest c = push_from (length rest) rest 0 (omega arith) c
 
     -- the bytes of an image after a record is written at p
@@ -111,7 +112,7 @@ module _ (f : Framing) (t : CodeTable) where
           ap (take (p + stride f)) (sym (append_assoc (take p xs) (framed f t r) (drop (p + length (framed f t r)) xs)))
           ∙ take_at (take p xs ++ framed f t r) (drop (p + length (framed f t r)) xs) (p + stride f) (omega (arith, length-append (take p xs) (framed f t r), length-take-le p xs (omega arith), frame_long r is))
 
-      pub put_after : reads_clean f t (take p xs) ≡ true → contents f t (take (p + stride f) (bytes_after xs p (framed f t r))) 0 ≡ record { records = (contents f t (take p xs) 0).records ++ (r ∷ []); ending = Clean }
+      pub put_after : reads_clean f t (take p xs) ≡ true → contents f t (take (p + stride f) (bytes_after xs p (framed f t r))) 0 ≡ record { records = (contents f t (take p xs) 0).records ++ (r ∷ []); ending = Ok tt }
       put_after c = ap (λ l. contents f t l 0) front_now ∙ push (take p xs) c
 
       pub one_less : (length (bytes_after xs p (framed f t r)) - (p + stride f)) / stride f + 1 ≡ (length xs - p) / stride f

@@ -1,5 +1,5 @@
 -- The records of a volume, one place on, and what each of them is. Assumes nothing.
-use Rattle.std.proofs.Common.{◌≡◌, ℕ, zero, suc, ◌+◌, ◌≤◌, Bool, true, false, cond, ◌&&◌, eqb, ltb, List, [], ◌∷◌, length, take, drop, is_some, Some, None, Ok, Err, Option, unwrap_or, refl, ap, ◌∙◌, subst, arith, length-drop, length-take}
+use Rattle.std.proofs.Common.{◌≡◌, ℕ, zero, suc, ◌+◌, ◌≤◌, Bool, true, false, cond, ◌&&◌, eqb, ltb, List, [], ◌∷◌, length, take, drop, is_some, Some, None, Ok, Err, Option, Result, unwrap_or, refl, ap, ◌∙◌, subst, arith, length-drop, length-take}
 use lib.ListN.{length-map}
 use Rattle.std.specs.Str.{bytes_eq}
 use Rattle.std.proofs.lemmas.List.{drop-drop}
@@ -9,18 +9,17 @@ use Rattle.charset.specs.Tables.{decoded}
 use Rattle.charset.specs.declared.code_table.CodeTable.{CodeTable}
 use Rattle.charset.proofs.Tables.{decoded_character}
 use Rattle.media.specs.Bytes.{Contents, told, standing, read_all, before, contents_in, contents}
-use Rattle.media.specs.Meaning.{all_characters, is_record, Draws}
+use Rattle.media.specs.Meaning.{all_characters, is_record, none_drawn, Draws}
 use Rattle.media.specs.Translation.{translated, first_without}
 use Rattle.media.specs.Frames.{line_end, stride}
 use Rattle.media.specs.declared.framing.Framing.{Framing}
-use Rattle.media.specs.declared.carriers.Ending.{Ending}
-use Rattle.media.specs.declared.carriers.Ending.TheVariants.{Clean, Broken}
-use Rattle.media.specs.declared.carriers.Drawn.TheVariants.{Record, Ended}
+use Rattle.media.specs.Endings.{Ending}
+use Rattle.media.specs.declared.volumes.VolumeFault.{VolumeFault}
 use Rattle.media.specs.declared.volumes.VolumeFault.TheVariants.{Frame}
 
 module _ (f : Framing) (t : CodeTable) where
   -- nothing stands in no bytes
-  none_left : (rest : List ℕ) (p : ℕ) → length rest ≤ 0 → standing f t rest p ≡ Err Clean
+  none_left : (rest : List ℕ) (p : ℕ) → length rest ≤ 0 → standing f t rest p ≡ Ok None
   none_left rest p h = rw (eq-eqb (length rest) 0 (omega arith))
 
   shorter : (n : ℕ) (rest : List ℕ) → length rest ≤ suc n → length (drop (stride f) rest) ≤ n
@@ -50,16 +49,16 @@ read_characters t (b ∷ bs) i h = go (decoded t b) refl (read_characters t bs (
 
 module _ (f : Framing) (t : CodeTable) where
   -- what stands at a place is a record, and the bytes are enough for it
-  read_record : (bs : List ℕ) (p : ℕ) (o : Option ℕ) (r : List ℕ) → first_without (decoded t) bs 0 ≡ o → length bs ≡ 80 → read_all t bs p o ≡ Ok r → is_record r ≡ true
+  read_record : (bs : List ℕ) (p : ℕ) (o : Option ℕ) (r : List ℕ) → first_without (decoded t) bs 0 ≡ o → length bs ≡ 80 → read_all t bs p o ≡ Ok (Some r) → is_record r ≡ true
   read_record bs p None r e l h =
       let same : translated (decoded t) bs ≡ r = cc in
       subst (λ (x : List ℕ). is_record x ≡ true) same (and_from (eqb (length (translated (decoded t) bs)) 80) (all_characters (translated (decoded t) bs)) (eq-eqb (length (translated (decoded t) bs)) 80 (length-map bs (λ b. unwrap_or (decoded t b) 0) ∙ l)) (read_characters t bs 0 e))
   read_record bs p (Some i) r e l h = absurd (let z : ◌≡◌ {A = ℕ} 0 1 = cc in omega arith)
 
-  pub stands_whole : (rest : List ℕ) (p : ℕ) (r : List ℕ) → standing f t rest p ≡ Ok r → (stride f ≤ length rest) × (is_record r ≡ true)
+  pub stands_whole : (rest : List ℕ) (p : ℕ) (r : List ℕ) → standing f t rest p ≡ Ok (Some r) → (stride f ≤ length rest) × (is_record r ≡ true)
   stands_whole rest p r h = go (eqb (length rest) 0) (ltb (length rest) (stride f)) (bytes_eq (take (length (line_end f)) (drop 80 rest)) (line_end f)) refl h
     where
-      go : (a b e : Bool) → ltb (length rest) (stride f) ≡ b → cond a (Err Clean) (cond b (Err (Broken (told (Frame p)))) (cond e (read_all t (take 80 rest) p (first_without (decoded t) (take 80 rest) 0)) (Err (Broken (told (Frame (p + 80))))))) ≡ Ok r → (stride f ≤ length rest) × (is_record r ≡ true)
+      go : (a b e : Bool) → ltb (length rest) (stride f) ≡ b → cond a (Ok None) (cond b (Err (Frame p)) (cond e (read_all t (take 80 rest) p (first_without (decoded t) (take 80 rest) 0)) (Err (Frame (p + 80))))) ≡ Ok (Some r) → (stride f ≤ length rest) × (is_record r ≡ true)
       go true b e k x = absurd (let z : ◌≡◌ {A = ℕ} 0 1 = cc in omega arith)
       go false true e k x = absurd (let z : ◌≡◌ {A = ℕ} 0 1 = cc in omega arith)
       go false false false k x = absurd (let z : ◌≡◌ {A = ℕ} 0 1 = cc in omega arith)
@@ -68,19 +67,25 @@ module _ (f : Framing) (t : CodeTable) where
           (long, read_record (take 80 rest) p (first_without (decoded t) (take 80 rest) 0) r refl (omega (arith, length-take 80 rest)) x)
 
 -- drawing where a record stands, and where none does
-draws_front : (c later : Contents) (r into : List ℕ) → is_record r ≡ true → c ≡ before (Ok r) later → Draws c.records c.ending into later.records r Record × (later.ending ≡ c.ending)
+draws_front : (c later : Contents) (r into : List ℕ) → is_record r ≡ true → c ≡ before (Ok (Some r)) later → Draws c.records c.ending into later.records r (Ok true) × (later.ending ≡ c.ending)
 draws_front c later r into w e = rw e ((refl, refl, refl, w), refl)
 
-draws_end : (c later : Contents) (e : Ending) (into : List ℕ) → c ≡ before (Err e) later → Draws c.records c.ending into c.records into (Ended e)
-draws_end c later e into h = rw h (refl, refl, refl)
+draws_end : (c : Contents) (e : Ending) (into : List ℕ) → c ≡ record { records = []; ending = e } → Draws c.records c.ending into c.records into (none_drawn e)
+draws_end c e into h = rw h (refl, refl, refl)
 
 module _ (f : Framing) (t : CodeTable) where
-  pub drawn_record : (bytes : List ℕ) (p s : ℕ) (r into : List ℕ) → s ≡ stride f → standing f t (drop p bytes) p ≡ Ok r → Draws (contents f t (drop p bytes) p).records (contents f t (drop p bytes) p).ending into (contents f t (drop (p + s) bytes) (p + s)).records r Record × ((contents f t (drop (p + s) bytes) (p + s)).ending ≡ (contents f t (drop p bytes) p).ending)
+  pub drawn_record : (bytes : List ℕ) (p s : ℕ) (r into : List ℕ) → s ≡ stride f → standing f t (drop p bytes) p ≡ Ok (Some r) → Draws (contents f t (drop p bytes) p).records (contents f t (drop p bytes) p).ending into (contents f t (drop (p + s) bytes) (p + s)).records r (Ok true) × ((contents f t (drop (p + s) bytes) (p + s)).ending ≡ (contents f t (drop p bytes) p).ending)
   drawn_record bytes p s r into is there =
       let onward : contents f t (drop (stride f) (drop p bytes)) (p + stride f) ≡ contents f t (drop (p + s) bytes) (p + s) = rw (drop-drop (stride f) p bytes, is) in
       draws_front (contents f t (drop p bytes) p) (contents f t (drop (p + s) bytes) (p + s)) r into (stands_whole f t (drop p bytes) p r there).1
-      (contents_step f t (drop p bytes) p ∙ (ap (λ x. before x (contents f t (drop (stride f) (drop p bytes)) (p + stride f))) there ∙ ap (before (Ok r)) onward))
+      (contents_step f t (drop p bytes) p ∙ (ap (λ x. before x (contents f t (drop (stride f) (drop p bytes)) (p + stride f))) there ∙ ap (before (Ok (Some r))) onward))
 
-  pub drawn_none : (rest : List ℕ) (p : ℕ) (e : Ending) (into : List ℕ) → standing f t rest p ≡ Err e → Draws (contents f t rest p).records (contents f t rest p).ending into (contents f t rest p).records into (Ended e)
-  drawn_none rest p e into there =
-      draws_end (contents f t rest p) (contents f t (drop (stride f) rest) (p + stride f)) e into (contents_step f t rest p ∙ ap (λ x. before x (contents f t (drop (stride f) rest) (p + stride f))) there)
+  -- where none stands, the contents are the ending alone
+  ends : (rest : List ℕ) (p : ℕ) (x : Result (Option (List ℕ)) VolumeFault) → standing f t rest p ≡ x → contents f t rest p ≡ before x (contents f t (drop (stride f) rest) (p + stride f))
+  ends rest p x there = contents_step f t rest p ∙ ap (λ y. before y (contents f t (drop (stride f) rest) (p + stride f))) there
+
+  pub drawn_none : (rest : List ℕ) (p : ℕ) (into : List ℕ) → standing f t rest p ≡ Ok None → Draws (contents f t rest p).records (contents f t rest p).ending into (contents f t rest p).records into (Ok false)
+  drawn_none rest p into there = draws_end (contents f t rest p) (Ok tt) into (ends rest p (Ok None) there)
+
+  pub drawn_fault : (rest : List ℕ) (p : ℕ) (fault : VolumeFault) (into : List ℕ) → standing f t rest p ≡ Err fault → Draws (contents f t rest p).records (contents f t rest p).ending into (contents f t rest p).records into (Err (told fault))
+  drawn_fault rest p fault into there = draws_end (contents f t rest p) (Err (told fault)) into (ends rest p (Err fault) there)

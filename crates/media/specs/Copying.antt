@@ -1,6 +1,6 @@
 -- What copying a carrier to an output gives. Assumes nothing.
 use Rattle.std.specs.Prelude.{◌≡◌, ℕ, ◌+◌, ◌<◌, List, [], ◌++◌, length, take, drop, Ok, Err, Result}
-use Rattle.media.specs.declared.carriers.Ending.{Ending}
+use Rattle.media.specs.Endings.{Ending}
 use Rattle.media.specs.declared.copying.Copied.{Copied}
 use Rattle.media.specs.declared.outputs.PutRefusal.{PutRefusal}
 use Rattle.media.specs.declared.outputs.PutRefusal.TheVariants.{NotARecord, NoPlace}

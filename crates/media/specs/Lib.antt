@@ -1,5 +1,6 @@
 pub mod Bytes
 pub mod Copying
+pub mod Endings
 pub mod Frames
 pub mod Images
 pub mod Meaning

@@ -1,10 +1,8 @@
 -- What carriers and outputs mean. Assumes nothing.
-use Rattle.std.specs.Prelude.{◌≡◌, ℕ, ◌+◌, min, Bool, true, cond, ◌&&◌, List, [], ◌∷◌, ◌++◌, length, Ok, Err, Result, ◌==◌}
+use Rattle.std.specs.Prelude.{◌≡◌, ℕ, ◌+◌, min, Bool, true, false, cond, ◌&&◌, List, [], ◌∷◌, ◌++◌, length, Ok, Err, Result, ◌==◌}
 use Rattle.charset.specs.Characters.{is_character}
-use Rattle.media.specs.declared.carriers.Ending.{Ending}
-use Rattle.media.specs.declared.carriers.Ending.TheVariants.{Clean, Broken}
-use Rattle.media.specs.declared.carriers.Drawn.{Drawn}
-use Rattle.media.specs.declared.carriers.Drawn.TheVariants.{Record, Ended}
+use Rattle.media.specs.Endings.{Ending}
+use Rattle.media.specs.declared.carriers.Fault.{Fault}
 use Rattle.media.specs.declared.outputs.PutRefusal.{PutRefusal}
 use Rattle.media.specs.declared.outputs.PutRefusal.TheVariants.{NotARecord, NoPlace}
 
@@ -16,15 +14,21 @@ all_characters (b ∷ bs) = is_character b && all_characters bs
 abbrev pub is_record : List ℕ → Bool
 is_record r = length r == 80 && all_characters r
 
+-- what drawing answers where no record is left
+abbrev pub none_drawn : Ending → Result Bool Fault
+none_drawn (Ok _) = Ok false
+none_drawn (Err fault) = Err fault
+
 -- drawing from a carrier that has these records left and this ending: what the caller's bytes and the records are after
-abbrev pub Draws : List (List ℕ) → Ending → List ℕ → List (List ℕ) → List ℕ → Drawn → Type 0
-Draws [] e into left after d = (d ≡ Ended e) × (left ≡ []) × (after ≡ into)
-Draws (r ∷ rs) e into left after d = (d ≡ Record) × (left ≡ rs) × (after ≡ r) × (is_record r ≡ true)
+abbrev pub Draws : List (List ℕ) → Ending → List ℕ → List (List ℕ) → List ℕ → Result Bool Fault → Type 0
+Draws [] e into left after d = (d ≡ none_drawn e) × (left ≡ []) × (after ≡ into)
+Draws (r ∷ rs) e into left after d = (d ≡ Ok true) × (left ≡ rs) × (after ≡ r) × (is_record r ≡ true)
 
 -- a carrier that has no record left stays as it is
-abbrev pub Stays : {S : Type 0} → S → S → Drawn → Type 0
-Stays c c' Record = Unit {0}
-Stays c c' (Ended e) = c' ≡ c
+abbrev pub Stays : {S : Type 0} → S → S → Result Bool Fault → Type 0
+Stays c c' (Ok true) = Unit {0}
+Stays c c' (Ok false) = c' ≡ c
+Stays c c' (Err fault) = c' ≡ c
 
 -- volumes are counted up to 65,535
 abbrev pub capped : ℕ → ℕ → ℕ
@@ -32,16 +36,16 @@ capped a b = min (a + b) 65535
 
 -- a second carrier after a first, which has so many volumes: it is reached only if the first ends clean
 abbrev pub joined_records : List (List ℕ) → Ending → List (List ℕ) → List (List ℕ)
-joined_records first Clean second = first ++ second
-joined_records first (Broken fault) second = first
+joined_records first (Ok _) second = first ++ second
+joined_records first (Err fault) second = first
 
 abbrev pub behind : ℕ → Ending → Ending
-behind volumes Clean = Clean
-behind volumes (Broken fault) = Broken (record { number = fault.number; place = fault.place; volume = capped volumes fault.volume })
+behind volumes (Ok _) = Ok tt
+behind volumes (Err fault) = Err (record { number = fault.number; place = fault.place; volume = capped volumes fault.volume })
 
 abbrev pub joined_ending : Ending → ℕ → Ending → Ending
-joined_ending Clean volumes second = behind volumes second
-joined_ending (Broken fault) volumes second = Broken fault
+joined_ending (Ok _) volumes second = behind volumes second
+joined_ending (Err fault) volumes second = Err fault
 
 -- the answer to a put where so many places are left
 abbrev pub putting : List ℕ → ℕ → Result (Unit {0}) PutRefusal

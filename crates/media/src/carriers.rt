@@ -1,5 +1,5 @@
 ghost use Rattle.std.specs.Prelude.{◌≡◌, ℕ, ◌≤◌, List};
-ghost use Rattle.media.specs.declared.carriers.Ending.{Ending};
+ghost use Rattle.media.specs.Endings.{Ending};
 ghost use Rattle.media.specs.Meaning.{Draws, Stays};
 
 use crate::framing::RECORD_LENGTH;
@@ -14,21 +14,8 @@ pub struct Fault {
     pub volume: u16,
 }
 
-/// How a carrier ends.
-#[derive(Clone, Copy, PartialEq, Eq, Debug)]
-pub enum Ending {
-    Clean,
-    Broken(Fault),
-}
-
-/// What drawing gives.
-#[derive(Clone, Copy, PartialEq, Eq, Debug)]
-pub enum Drawn {
-    /// A record, now in the caller's bytes.
-    Record,
-    /// No record was left.
-    Ended(Ending),
-}
+/// How a carrier ends: clean, or in a fault.
+pub type Ending = Result<(), Fault>;
 
 /// Something that gives the records of a holding, one after the other.
 pub trait Carrier {
@@ -46,9 +33,9 @@ pub trait Carrier {
         ensures value { result ≡ volumes self.now }
         ensures bounds { (1 ≤ volumes self.now) × (volumes self.now ≤ 65535) };
 
-    /// Copies the first record left, 80 characters, into the caller's bytes and removes it. With none left it tells the ending,
-    /// and neither those bytes nor the carrier change.
-    fn draw(&mut self, into: &mut [u8; RECORD_LENGTH]) -> Drawn
+    /// Copies the first record left, 80 characters, into the caller's bytes, removes it and answers true. With none left it
+    /// answers false at a clean end, and else its fault, and neither those bytes nor the carrier change.
+    fn draw(&mut self, into: &mut [u8; RECORD_LENGTH]) -> Result<bool, Fault>
         ensures drawn { Draws (records self.old) (ending self.old) into.old (records self.new) into.new result }
         ensures kept { Stays self.old self.new result }
         ensures ending { ending self.new ≡ ending self.old }

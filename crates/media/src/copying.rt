@@ -1,7 +1,7 @@
 ghost use Rattle.std.specs.Prelude.{◌≡◌};
 ghost use Rattle.media.specs.Copying.{Copies};
 
-use crate::carriers::{Carrier, Drawn, Ending};
+use crate::carriers::{Carrier, Ending};
 use crate::framing::RECORD_LENGTH;
 use crate::outputs::{Output, PutRefusal};
 
@@ -21,13 +21,13 @@ pub fn copy<C: Carrier, O: Output>(carrier: &mut C, output: &mut O) -> Result<Co
 {
     let places = output.places();
     let mut characters = [b' '; RECORD_LENGTH];
-    loop {
+    let ending = loop {
         match carrier.draw(&mut characters) {
-            Drawn::Record => output.put(&characters)?,
-            Drawn::Ended(ending) => {
-                let records = places - output.places();
-                return Ok(Copied { records, ending });
-            }
+            Ok(true) => output.put(&characters)?,
+            Ok(false) => break Ok(()),
+            Err(fault) => break Err(fault),
         }
-    }
+    };
+    let records = places - output.places();
+    Ok(Copied { records, ending })
 }

@@ -1,6 +1,6 @@
 ghost use Rattle.media.specs.Meaning.{capped, joined_records, joined_ending};
 
-use crate::carriers::{Carrier, Drawn, Ending, Fault};
+use crate::carriers::{Carrier, Fault};
 use crate::framing::RECORD_LENGTH;
 
 /// Two carriers read as one holding, the second after the first.
@@ -21,16 +21,14 @@ impl<A: Carrier, B: Carrier> Carrier for Joined<A, B> {
         self.first.volumes().saturating_add(self.second.volumes())
     }
 
-    fn draw(&mut self, into: &mut [u8; RECORD_LENGTH]) -> Drawn {
-        match self.first.draw(into) {
-            Drawn::Ended(Ending::Clean) => match self.second.draw(into) {
-                Drawn::Ended(Ending::Broken(fault)) => {
-                    let volume = self.first.volumes().saturating_add(fault.volume);
-                    Drawn::Ended(Ending::Broken(Fault { volume, ..fault }))
-                }
-                drawn => drawn,
-            },
-            drawn => drawn,
+    fn draw(&mut self, into: &mut [u8; RECORD_LENGTH]) -> Result<bool, Fault> {
+        if self.first.draw(into)? {
+            return Ok(true);
         }
+        let before = self.first.volumes();
+        self.second.draw(into).map_err(|fault| Fault {
+            volume: before.saturating_add(fault.volume),
+            ..fault
+        })
     }
 }

@@ -10,7 +10,7 @@ pub mod joining;
 pub mod outputs;
 pub mod volumes;
 
-pub use carriers::{Carrier, Drawn, Ending, Fault};
+pub use carriers::{Carrier, Ending, Fault};
 pub use copying::{Copied, copy};
 pub use framing::Framing;
 pub use images::Image;

@@ -1,8 +1,8 @@
 ghost use Rattle.std.specs.Prelude.{max, []};
 
 use crate::volumes::show_copy;
-use charset::CodeTable;
-use media::{Carrier, Drawn, Ending, Fault, Joined, Volume};
+use charset::{CodePage, CodeTable};
+use media::{Carrier, Drawn, Ending, Fault, Framing, Joined, Volume};
 use std::io;
 
 // A carrier of many volumes without records.
@@ -104,8 +104,12 @@ pub fn show(rt: &HostRuntime) -> io::Result<()> {
 fn show_volumes(rt: &HostRuntime) -> io::Result<()> {
     let good = [b' '; 160];
     let bad = [b' '; 81];
-    let one = Volume::blocks(&good[0..80], CodeTable::page_850());
-    let two = Volume::blocks(&good, CodeTable::page_850());
+    let one = Volume::new(
+        &good[0..80],
+        Framing::Blocks,
+        CodeTable::from(CodePage::Page850),
+    );
+    let two = Volume::new(&good, Framing::Blocks, CodeTable::from(CodePage::Page850));
     show_copy(
         rt,
         &mut Joined {
@@ -113,8 +117,8 @@ fn show_volumes(rt: &HostRuntime) -> io::Result<()> {
             second: two,
         },
     )?;
-    let short = Volume::blocks(&bad, CodeTable::page_850());
-    let two = Volume::blocks(&good, CodeTable::page_850());
+    let short = Volume::new(&bad, Framing::Blocks, CodeTable::from(CodePage::Page850));
+    let two = Volume::new(&good, Framing::Blocks, CodeTable::from(CodePage::Page850));
     show_copy(
         rt,
         &mut Joined {
@@ -122,8 +126,12 @@ fn show_volumes(rt: &HostRuntime) -> io::Result<()> {
             second: two,
         },
     )?;
-    let one = Volume::blocks(&good[0..80], CodeTable::page_850());
-    let short = Volume::blocks(&bad, CodeTable::page_850());
+    let one = Volume::new(
+        &good[0..80],
+        Framing::Blocks,
+        CodeTable::from(CodePage::Page850),
+    );
+    let short = Volume::new(&bad, Framing::Blocks, CodeTable::from(CodePage::Page850));
     show_copy(
         rt,
         &mut Joined {
@@ -131,8 +139,8 @@ fn show_volumes(rt: &HostRuntime) -> io::Result<()> {
             second: short,
         },
     )?;
-    let two = Volume::blocks(&good, CodeTable::page_850());
-    let more = Volume::blocks(&good, CodeTable::page_850());
+    let two = Volume::new(&good, Framing::Blocks, CodeTable::from(CodePage::Page850));
+    let more = Volume::new(&good, Framing::Blocks, CodeTable::from(CodePage::Page850));
     show_copy(
         rt,
         &mut Joined {

@@ -1,18 +1,35 @@
-use charset::CodeTable;
-use media::{Image, Output};
+use charset::{CodePage, CodeTable};
+use media::{Framing, Image, Output};
 use std::io;
 
 pub fn show(rt: &HostRuntime) -> io::Result<()> {
     println!(rt; "lines put")?;
     let mut bytes = [b'#'; 165];
-    show_puts(rt, &mut Image::lines(&mut bytes, CodeTable::page_850()))?;
+    show_puts(
+        rt,
+        &mut Image::new(
+            &mut bytes,
+            Framing::Lines,
+            CodeTable::from(CodePage::Page850),
+        ),
+    )?;
     show_bytes(rt, &bytes)?;
     println!(rt; "blocks put")?;
     let mut bytes = [b'#'; 161];
-    show_puts(rt, &mut Image::blocks(&mut bytes, CodeTable::page_284()))?;
+    show_puts(
+        rt,
+        &mut Image::new(
+            &mut bytes,
+            Framing::Blocks,
+            CodeTable::from(CodePage::Page284),
+        ),
+    )?;
     show_bytes(rt, &bytes)?;
     println!(rt; "no bytes")?;
-    show_puts(rt, &mut Image::blocks(&mut [], CodeTable::page_284()))
+    show_puts(
+        rt,
+        &mut Image::new(&mut [], Framing::Blocks, CodeTable::from(CodePage::Page284)),
+    )
 }
 
 fn show_puts(rt: &HostRuntime, image: &mut Image) -> io::Result<()> {

@@ -1,12 +1,12 @@
-use charset::CodeTable;
 use charset::characters::CHARACTERS;
+use charset::{CodePage, CodeTable};
 use std::io;
 
 pub fn show(rt: &HostRuntime) -> io::Result<()> {
     println!(rt; "page 850")?;
-    show_page(rt, &CodeTable::page_850())?;
+    show_page(rt, &CodeTable::from(CodePage::Page850))?;
     println!(rt; "page 284")?;
-    show_page(rt, &CodeTable::page_284())?;
+    show_page(rt, &CodeTable::from(CodePage::Page284))?;
     println!(rt; "made")?;
     let reversed: [u8; 58] = *b"\"=':?>_%,/-;)*&+(<.\xA5ZYXWVUTSRQPONMLKJIHGFEDCBA9876543210 A";
     show_making(rt, &reversed[0..57])?;
@@ -34,7 +34,7 @@ fn show_page(rt: &HostRuntime, table: &CodeTable) -> io::Result<()> {
 }
 
 fn show_making(rt: &HostRuntime, bytes: &[u8]) -> io::Result<()> {
-    let mut table = CodeTable::page_284();
+    let mut table = CodeTable::from(CodePage::Page284);
     match table.make(bytes) {
         Ok(()) => print!(rt; "made")?,
         Err(refusal) => {

@@ -1,5 +1,5 @@
-use charset::CodeTable;
-use media::{Carrier, Ending, Image, Volume, copy};
+use charset::{CodePage, CodeTable};
+use media::{Carrier, Ending, Framing, Image, Volume, copy};
 use std::io;
 
 // Two records, cut to a length, with one byte changed.
@@ -129,13 +129,21 @@ pub fn show(rt: &HostRuntime) -> io::Result<()> {
     println!(rt; "lines")?;
     for case in &LINES {
         let bytes = lines_of(case);
-        let mut volume = Volume::lines(&bytes[0..case.length.min(164)], CodeTable::page_850());
+        let mut volume = Volume::new(
+            &bytes[0..case.length.min(164)],
+            Framing::Lines,
+            CodeTable::from(CodePage::Page850),
+        );
         show_volume(rt, case, &mut volume)?;
     }
     println!(rt; "blocks")?;
     for case in &BLOCKS {
         let bytes = blocks_of(case);
-        let mut volume = Volume::blocks(&bytes[0..case.length.min(160)], CodeTable::page_284());
+        let mut volume = Volume::new(
+            &bytes[0..case.length.min(160)],
+            Framing::Blocks,
+            CodeTable::from(CodePage::Page284),
+        );
         show_volume(rt, case, &mut volume)?;
     }
     Ok(())
@@ -169,7 +177,11 @@ fn show_volume(rt: &HostRuntime, case: &Case, volume: &mut Volume) -> io::Result
 pub fn show_copy<C: Carrier>(rt: &HostRuntime, carrier: &mut C) -> io::Result<()> {
     let volumes = carrier.volumes();
     let mut bytes = [0; 240];
-    let mut image = Image::blocks(&mut bytes, CodeTable::page_850());
+    let mut image = Image::new(
+        &mut bytes,
+        Framing::Blocks,
+        CodeTable::from(CodePage::Page850),
+    );
     match copy(carrier, &mut image) {
         Ok(copied) => {
             let records = copied.records;

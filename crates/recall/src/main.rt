@@ -3,8 +3,8 @@
 
 mod survey;
 
-use charset::CodeTable;
-use media::{Carrier, Ending, Image, Joined, Volume, copy};
+use charset::{CodePage, CodeTable};
+use media::{Carrier, Ending, Framing, Image, Joined, Volume, copy};
 use reading::{Refusal, Told};
 use std::fs;
 use survey::{Kinds, Stop, survey};
@@ -34,7 +34,11 @@ fn recall(rt: &HostRuntime, tape: &str, image: &str) -> anyhow::Result<()> {
     tell_stop(rt, stop)?;
     let mut holding = joined(&first, &second);
     let mut bytes = vec![in rt.alloc(); 0; first.len().saturating_add(second.len())]?;
-    let mut output = Image::blocks(&mut bytes, CodeTable::page_284());
+    let mut output = Image::new(
+        &mut bytes,
+        Framing::Blocks,
+        CodeTable::from(CodePage::Page284),
+    );
     match copy(&mut holding, &mut output) {
         Ok(copied) => {
             let records = copied.records;
@@ -56,8 +60,8 @@ fn recall(rt: &HostRuntime, tape: &str, image: &str) -> anyhow::Result<()> {
 // The first volume is a disk image in page 850, the second a tape image in EBCDIC.
 fn joined<'a>(disk: &'a [u8], tape: &'a [u8]) -> Joined<Volume<'a>, Volume<'a>> {
     Joined {
-        first: Volume::lines(disk, CodeTable::page_850()),
-        second: Volume::blocks(tape, CodeTable::page_284()),
+        first: Volume::new(disk, Framing::Lines, CodeTable::from(CodePage::Page850)),
+        second: Volume::new(tape, Framing::Blocks, CodeTable::from(CodePage::Page284)),
     }
 }
 

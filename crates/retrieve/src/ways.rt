@@ -1,4 +1,4 @@
-use charset::CodeTable;
+use charset::{CodePage, CodeTable};
 use media::{Framing, Image, Volume};
 
 /// How a volume is written: in lines or blocks, in one of the two code pages.
@@ -44,20 +44,36 @@ impl Way {
     /// A volume over bytes that are written this way.
     pub fn volume(self, bytes: &[u8]) -> Volume<'_> {
         match self {
-            Way::Lines850 => Volume::lines(bytes, CodeTable::page_850()),
-            Way::Lines284 => Volume::lines(bytes, CodeTable::page_284()),
-            Way::Blocks850 => Volume::blocks(bytes, CodeTable::page_850()),
-            Way::Blocks284 => Volume::blocks(bytes, CodeTable::page_284()),
+            Way::Lines850 => Volume::new(bytes, Framing::Lines, CodeTable::from(CodePage::Page850)),
+            Way::Lines284 => Volume::new(bytes, Framing::Lines, CodeTable::from(CodePage::Page284)),
+            Way::Blocks850 => Volume::new(
+                bytes,
+                Framing::Blocks,
+                CodeTable::from(CodePage::Page850),
+            ),
+            Way::Blocks284 => Volume::new(
+                bytes,
+                Framing::Blocks,
+                CodeTable::from(CodePage::Page284),
+            ),
         }
     }
 
     /// An image over bytes that will be written this way.
     pub fn image(self, bytes: &mut [u8]) -> Image<'_> {
         match self {
-            Way::Lines850 => Image::lines(bytes, CodeTable::page_850()),
-            Way::Lines284 => Image::lines(bytes, CodeTable::page_284()),
-            Way::Blocks850 => Image::blocks(bytes, CodeTable::page_850()),
-            Way::Blocks284 => Image::blocks(bytes, CodeTable::page_284()),
+            Way::Lines850 => Image::new(bytes, Framing::Lines, CodeTable::from(CodePage::Page850)),
+            Way::Lines284 => Image::new(bytes, Framing::Lines, CodeTable::from(CodePage::Page284)),
+            Way::Blocks850 => Image::new(
+                bytes,
+                Framing::Blocks,
+                CodeTable::from(CodePage::Page850),
+            ),
+            Way::Blocks284 => Image::new(
+                bytes,
+                Framing::Blocks,
+                CodeTable::from(CodePage::Page284),
+            ),
         }
     }
 }

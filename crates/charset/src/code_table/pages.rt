@@ -1,5 +1,5 @@
 ghost use Rattle.std.specs.Prelude.{◌≡◌};
-ghost use Rattle.charset.specs.Pages.{page_850, page_284};
+ghost use Rattle.charset.specs.Pages.{page_bytes};
 ghost use Rattle.charset.specs.Tables.{bytes_of};
 
 use crate::CodeTable;
@@ -14,18 +14,22 @@ const EBCDIC_284: [u8; CHARACTER_COUNT] = *b"\x40\
     \x7B\
     \x4B\x4C\x4D\x4E\x50\x5C\x5D\x5E\x60\x61\x6B\x6C\x6D\x6E\x6F\x7A\x7D\x7E\x7F";
 
-impl CodeTable {
+/// The code pages that holdings are written in.
+#[derive(Clone, Copy, PartialEq, Eq, Debug)]
+pub enum CodePage {
     /// Code page 850, in which each character is its own byte.
-    pub fn page_850() -> CodeTable
-        ensures { bytes_of result ≡ page_850 }
-    {
-        CodeTable::of_bytes(CHARACTERS).unwrap()
-    }
-
+    Page850,
     /// EBCDIC page 284.
-    pub fn page_284() -> CodeTable
-        ensures { bytes_of result ≡ page_284 }
-    {
-        CodeTable::of_bytes(EBCDIC_284).unwrap()
+    Page284,
+}
+
+impl From<CodePage> for CodeTable {
+    ghost from_gives = { λ page table. bytes_of table ≡ page_bytes page };
+
+    fn from(page: CodePage) -> CodeTable {
+        match page {
+            CodePage::Page850 => CodeTable::of_bytes(CHARACTERS).unwrap(),
+            CodePage::Page284 => CodeTable::of_bytes(EBCDIC_284).unwrap(),
+        }
     }
 }

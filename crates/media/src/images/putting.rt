@@ -1,7 +1,6 @@
 ghost use Rattle.std.specs.Prelude.{◌≡◌, ◌+◌, ◌≤◌, true, [], ◌++◌, length, is_err};
 ghost use Rattle.media.specs.Meaning.{putting, Puts};
 ghost use Rattle.media.specs.Images.{records_put, places_left, Behind, Encodes, Made, Writes};
-ghost use Rattle.media.specs.declared.framing.Framing.TheVariants.{Lines, Blocks};
 
 use crate::framing::{Framing, RECORD_LENGTH};
 use crate::images::Image;
@@ -23,29 +22,16 @@ fn encode_record(table: &CodeTable, offered: &[u8]) -> Option<[u8; RECORD_LENGTH
 }
 
 impl<'a> Image<'a> {
-    /// An image of lines, as on disks.
-    pub fn lines(bytes: &'a mut [u8], table: CodeTable) -> Image<'a>
-        ensures made { Made result bytes.old Lines table }
+    /// An image of a volume, of lines as on disks or of blocks as on tapes, with nothing written yet.
+    pub fn new(bytes: &'a mut [u8], framing: Framing, table: CodeTable) -> Image<'a>
+        ensures made { Made result bytes.old framing table }
         ensures lent { result.bytes.ghost_name ≡ bytes.entry.ghost_name }
     {
         Image {
             bytes,
             position: 0,
             table,
-            framing: Framing::Lines,
-        }
-    }
-
-    /// An image of blocks, as on tapes.
-    pub fn blocks(bytes: &'a mut [u8], table: CodeTable) -> Image<'a>
-        ensures made { Made result bytes.old Blocks table }
-        ensures lent { result.bytes.ghost_name ≡ bytes.entry.ghost_name }
-    {
-        Image {
-            bytes,
-            position: 0,
-            table,
-            framing: Framing::Blocks,
+            framing,
         }
     }
 

@@ -1,60 +1,44 @@
 ghost use Rattle.std.specs.Prelude.{◌≡◌, ◌+◌, ◌^◌, ◌<◌, length};
 ghost use Rattle.media.specs.Bytes.{told, standing, contents, Decodes};
 ghost use Rattle.media.specs.Volumes.{contents_of, looked};
-ghost use Rattle.media.specs.declared.framing.Framing.TheVariants.{Lines, Blocks};
 
-use crate::carriers::{Carrier, Drawn, Ending, Fault};
+use crate::carriers::{Carrier, Fault};
 use crate::framing::{Framing, RECORD_LENGTH};
 use crate::volumes::{Volume, VolumeFault};
 use charset::CodeTable;
 
-impl VolumeFault {
-    /// The fault that a volume tells: it is one volume, named 1.
-    pub fn told(self) -> Fault
-        ensures { result ≡ told self }
-    {
-        match self {
-            VolumeFault::Frame(place) => Fault {
-                number: 21,
-                place,
-                volume: 1,
-            },
-            VolumeFault::Character(place) => Fault {
-                number: 22,
-                place,
-                volume: 1,
-            },
+/// The fault that a volume tells: it is one volume, named 1.
+impl From<VolumeFault> for Fault {
+    ghost from_gives = { λ fault gives. gives ≡ told fault };
+
+    fn from(fault: VolumeFault) -> Fault {
+        let (number, place) = match fault {
+            VolumeFault::Frame(place) => (21, place),
+            VolumeFault::Character(place) => (22, place),
+        };
+        Fault {
+            number,
+            place,
+            volume: 1,
         }
     }
 }
 
 impl<'a> Volume<'a> {
-    /// A volume of lines, as on disks.
-    pub fn lines(bytes: &'a [u8], table: CodeTable) -> Volume<'a>
-        ensures { contents_of result ≡ contents Lines table bytes.now 0 }
+    /// The volume that lies in the bytes: lines as on disks, or blocks as on tapes.
+    pub fn new(bytes: &'a [u8], framing: Framing, table: CodeTable) -> Volume<'a>
+        ensures { contents_of result ≡ contents framing table bytes.now 0 }
     {
         Volume {
             bytes,
             position: 0,
             table,
-            framing: Framing::Lines,
+            framing,
         }
     }
 
-    /// A volume of blocks, as on tapes.
-    pub fn blocks(bytes: &'a [u8], table: CodeTable) -> Volume<'a>
-        ensures { contents_of result ≡ contents Blocks table bytes.now 0 }
-    {
-        Volume {
-            bytes,
-            position: 0,
-            table,
-            framing: Framing::Blocks,
-        }
-    }
-
-    // The record at the position, or how the volume ends there.
-    fn look(&self) -> Result<[u8; RECORD_LENGTH], Ending>
+    // The record at the position, none where the volume ends clean there.
+    fn look(&self) -> Result<Option<[u8; RECORD_LENGTH]>, VolumeFault>
         ensures { result ≡ looked self.now }
     {
         record_at(
@@ -77,41 +61,39 @@ impl<'a> Carrier for Volume<'a> {
         1
     }
 
-    fn draw(&mut self, into: &mut [u8; RECORD_LENGTH]) -> Drawn {
-        match self.look() {
-            Ok(characters) => {
-                *into = characters;
-                self.position += self.framing.stride();
-                Drawn::Record
-            }
-            Err(ending) => Drawn::Ended(ending),
-        }
+    fn draw(&mut self, into: &mut [u8; RECORD_LENGTH]) -> Result<bool, Fault> {
+        let Some(characters) = self.look()? else {
+            return Ok(false);
+        };
+        *into = characters;
+        self.position += self.framing.stride();
+        Ok(true)
     }
 }
 
-// The record at a byte place, or how the volume ends there; `rest` are the bytes from that place on.
+// The record at a byte place, none where the volume ends clean there; `rest` are the bytes from that place on.
 fn record_at(
     framing: Framing,
     table: &CodeTable,
     rest: &[u8],
     place: usize,
-) -> Result<[u8; RECORD_LENGTH], Ending>
+) -> Result<Option<[u8; RECORD_LENGTH]>, VolumeFault>
     requires { place + length rest.now < 2 ^ 64 }
     ensures { result ≡ standing framing table.now rest.now place }
 {
     let stride = framing.stride();
     if rest.is_empty() {
-        return Err(Ending::Clean);
+        return Ok(None);
     }
     if rest.len() < stride {
-        return Err(Ending::Broken(VolumeFault::Frame(place).told()));
+        return Err(VolumeFault::Frame(place));
     }
     if !framing.is_line_end(&rest[RECORD_LENGTH..stride]) {
-        return Err(Ending::Broken(VolumeFault::Frame(place + RECORD_LENGTH).told()));
+        return Err(VolumeFault::Frame(place + RECORD_LENGTH));
     }
     match decode_record(table, &rest[0..RECORD_LENGTH]) {
-        Ok(characters) => Ok(characters),
-        Err(i) => Err(Ending::Broken(VolumeFault::Character(place + i).told())),
+        Ok(characters) => Ok(Some(characters)),
+        Err(i) => Err(VolumeFault::Character(place + i)),
     }
 }
 

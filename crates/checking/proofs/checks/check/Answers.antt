@@ -13,6 +13,6 @@ returns c =
     let accounts = c.len.ensures ∙ h.tables.accounts.many in
     let movements = c.len-2.ensures ∙ h.tables.movements.many in
     elim c.match-read.branch [
-      | in-Ok w ↦ told _ _ _ _ _ _ _ _ short c.page_850.ensures c.lines-volume.ensures (w.notice-is ∙ (ap (λ r. option_map read_notice (result_err r)) (sym w.in-Ok.is ∙ h.answer))) accounts movements h.tables
-      | in-Err w ↦ told _ _ _ _ _ _ _ _ short c.page_850.ensures c.lines-volume.ensures (w.notice-is ∙ (ap Some w.notice.ensures ∙ ap (λ r. option_map read_notice (result_err r)) (sym w.in-Err.is ∙ h.answer))) accounts movements h.tables
+      | in-Ok w ↦ told _ _ _ _ _ _ _ _ short c.from.ensures c.new-volume.ensures (w.notice-is ∙ (ap (λ r. option_map read_notice (result_err r)) (sym w.in-Ok.is ∙ h.answer))) accounts movements h.tables
+      | in-Err w ↦ told _ _ _ _ _ _ _ _ short c.from.ensures c.new-volume.ensures (w.notice-is ∙ (ap Some w.notice.ensures ∙ ap (λ r. option_map read_notice (result_err r)) (sym w.in-Err.is ∙ h.answer))) accounts movements h.tables
     ]

@@ -4,8 +4,8 @@ use Rattle.media.proofs.Standing.{held}
 use Rattle.media.proofs.Translating.{within}
 use Rattle.media.proofs.volumes.drawing.record_at.Goals as goal
 
-pub overflow_add-place-in-Err : goal.overflow_add-place-in-Err
-overflow_add-place-in-Err c =
+pub overflow_add-result-in-Err : goal.overflow_add-result-in-Err
+overflow_add-result-in-Err c =
     let inside = within (decoded c.args.table.now) (take 80 c.args.rest.now) 0 c.in-Err.i c.in-Err.ensures in
     omega (arith, length-take 80 c.args.rest.now)
 
