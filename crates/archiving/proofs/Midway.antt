@@ -12,11 +12,12 @@ use Rattle.reading.specs.declared.kinds.Kind.{Kind}
 use Rattle.reading.specs.declared.kinds.Kind.TheVariants.{Account, Movement, Text, Equivalent as EquivalentKind, AccountEnd, FileEnd}
 use Rattle.table.proofs.Filling.{onward, length-revised}
 use Rattle.rows.specs.Kept.{Rows, no_rows, movements_of, texts_of}
+use Rattle.rows.specs.Tables.{rows_in, room_in, Holds}
 use Rattle.rows.specs.declared.accounts.AccountRow.{AccountRow}
+use Rattle.rows.specs.declared.archive.Tables.{Tables}
 use Rattle.rows.specs.declared.movements.MovementRow.{MovementRow}
 use Rattle.rows.specs.declared.texts.TextRow.{TextRow}
 use Rattle.archiving.specs.Entering.{account_row, movement_row, text_row, one_movement_more, one_text_more, ended_with, converted_to, with_account, with_movement, with_text, with_equivalent, with_end, entered_as}
-use Rattle.archiving.specs.Filling.{Tables, rows_in, room_in, Holds}
 use Rattle.archiving.specs.Reads.{of_kind, entered, stopping, at_end, unless_stopped, outcome, read_of}
 use Rattle.archiving.specs.declared.refusals.ReadRefusal.{ReadRefusal}
 use Rattle.archiving.proofs.Counting.{sum_append, sum_revised}

@@ -1,5 +1,7 @@
 -- A record that a reading takes, and the tables. Assumes nothing.
-use Rattle.std.proofs.Common.{◌≡◌, ℕ, ◌+◌, List, length, Some, None, Option, sym, refl, ap, ◌∙◌, arith}
+use Rattle.std.proofs.Common.{◌≡◌, ℕ, ◌+◌, List, length, Some, None, Ok, Err, Option, Result, sym, refl, ap, ◌∙◌, arith}
+use Rattle.std.specs.Result.{MatchResult, IsErrAnd, OnOk, result_err}
+use Rattle.std.proofs.lemmas.Result.{err_from_is_err_and}
 use Rattle.values.specs.declared.parts.OpenAccount.{OpenAccount}
 use Rattle.records.proofs.Judging.{columns_long}
 use Rattle.reading.specs.Offers.{kind_in}
@@ -9,12 +11,14 @@ use Rattle.reading.specs.declared.entries.Entry.{Entry}
 use Rattle.reading.specs.declared.entries.Entry.TheVariants as entry
 use Rattle.reading.specs.declared.refusals.Refusal.{Refusal}
 use Rattle.rows.specs.Kept.{Rows}
+use Rattle.rows.specs.Tables.{Room, rows_in, Holds}
+use Rattle.rows.specs.declared.archive.Tables.{Tables}
 use Rattle.rows.specs.declared.tables.TableKind.{TableKind}
 use Rattle.table.proofs.Filling.{standing}
-use Rattle.archiving.specs.Entering.{Room, entered_as, with_entry, lacking, Whole}
-use Rattle.archiving.specs.Filling.{Tables, rows_in, Holds}
+use Rattle.archiving.specs.Entering.{entered_as, with_entry, lacking, Whole, granted}
 use Rattle.archiving.specs.Reads.{of_kind, entered, crowded, unless_taken, stopping}
-use Rattle.archiving.specs.declared.refusals.ReadRefusal.TheVariants.{Reading}
+use Rattle.archiving.specs.declared.refusals.ReadRefusal.{ReadRefusal}
+use Rattle.archiving.specs.declared.refusals.ReadRefusal.TheVariants.{Reading, NoRow}
 
 -- what a reading lends has its full width
 pub whole : (a : OpenAccount) (o : List ℕ) (e : Entry) → length o ≡ 80 → Tells a o e → Whole e
@@ -63,3 +67,24 @@ still t = record {
   movements_lent = refl;
   texts_lent = refl;
 }
+
+-- what the tables answer, told with the number of the record
+abbrev pub numbered : ℕ → Result (Unit {0}) TableKind → Result (Unit {0}) ReadRefusal
+numbered n (Ok u) = Ok u
+numbered n (Err table) = Err (NoRow table n)
+
+pub numbered_by : (n : ℕ) (Told : TableKind → ReadRefusal → Type 0) → ((table : TableKind) (x : ReadRefusal) → Told table x → x ≡ NoRow table n) → (entered : Result (Unit {0}) TableKind) (answer : Result (Unit {0}) ReadRefusal) → MatchResult entered (λ u. answer ≡ Ok u) (λ table. IsErrAnd answer (Told table)) → answer ≡ numbered n entered
+numbered_by n Told is (Ok u) answer h = h
+numbered_by n Told is (Err table) answer h = let e = err_from_is_err_and answer h in e.1 ∙ ap Err (is table e.0 e.2)
+
+pub stop_numbered : (n : ℕ) (entered : Result (Unit {0}) TableKind) → result_err (numbered n entered) ≡ unless_taken n None (result_err entered)
+stop_numbered n (Ok u) = refl
+stop_numbered n (Err table) = refl
+
+pub granted_numbered : (n : ℕ) (entered : Result (Unit {0}) TableKind) (one other : Rows) → granted (numbered n entered) one other ≡ granted entered one other
+granted_numbered n (Ok u) one other = refl
+granted_numbered n (Err table) one other = refl
+
+pub on_any : {T E P : Type 0} (answer : Result T E) → P → OnOk answer P
+on_any (Ok x) p = p
+on_any (Err x) p = tt

@@ -1,5 +1,5 @@
 -- How a record that was taken is entered in the tables. Assumes nothing.
-use Rattle.std.specs.Prelude.{◌≡◌, ℕ, ◌+◌, cond, List, [], ◌∷◌, ◌++◌, length, Some, None, Option, nat_lt}
+use Rattle.std.specs.Prelude.{◌≡◌, ℕ, ◌+◌, cond, List, [], ◌∷◌, ◌++◌, length, Some, None, Ok, Err, Option, Result, nat_lt}
 use Rattle.fields.specs.declared.keys.Key.{Key}
 use Rattle.fields.specs.declared.modalities.Modality.{Modality}
 use Rattle.values.specs.declared.parts.AccountHead.{AccountHead}
@@ -13,6 +13,7 @@ use Rattle.reading.specs.declared.kinds.Kind.{Kind}
 use Rattle.reading.specs.declared.kinds.Kind.TheVariants.{Account, Movement, Text, Equivalent as EquivalentKind, AccountEnd, FileEnd}
 use Rattle.table.specs.Rows.{revised}
 use Rattle.rows.specs.Kept.{Rows}
+use Rattle.rows.specs.Tables.{Room}
 use Rattle.rows.specs.declared.accounts.AccountRow.{AccountRow}
 use Rattle.rows.specs.declared.movements.MovementRow.{MovementRow}
 use Rattle.rows.specs.declared.tables.TableKind.{TableKind}
@@ -76,12 +77,6 @@ with_entry (entry.Equivalent equivalent) t = with_equivalent equivalent t
 with_entry (entry.AccountEnd end) t = with_end end.last.key t
 with_entry (entry.FileEnd records) t = t
 
--- how many rows there are, filled or not
-pub record Room : Type 0 where
-  pub accounts : ℕ
-  pub movements : ℕ
-  pub texts : ℕ
-
 -- the table that lacks a free row for a record of a kind, if one does
 abbrev pub full : TableKind → ℕ → ℕ → Option TableKind
 full table filled room = cond (nat_lt filled room) None (Some table)
@@ -102,3 +97,8 @@ Whole (entry.Text sequence first second) = (length first.now ≡ 38) × (length 
 Whole (entry.Equivalent equivalent) = Unit {0}
 Whole (entry.AccountEnd end) = Unit {0}
 Whole (entry.FileEnd records) = Unit {0}
+
+-- what is held after an answer: the one where it was granted, the other where it was refused
+abbrev pub granted : {A T E : Type 0} → Result T E → A → A → A
+granted (Ok _) one other = one
+granted (Err _) one other = other

@@ -1,4 +1,3 @@
 pub mod Entering
-pub mod Filling
 pub mod Numbers
 pub mod Reads

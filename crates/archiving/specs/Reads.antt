@@ -9,8 +9,9 @@ use Rattle.reading.specs.Taken.{closing}
 use Rattle.reading.specs.declared.kinds.Kind.{Kind}
 use Rattle.reading.specs.declared.refusals.Refusal.{Refusal}
 use Rattle.rows.specs.Kept.{Rows, no_rows}
+use Rattle.rows.specs.Tables.{Room}
 use Rattle.rows.specs.declared.tables.TableKind.{TableKind}
-use Rattle.archiving.specs.Entering.{Room, entered_as, lacking}
+use Rattle.archiving.specs.Entering.{entered_as, lacking}
 use Rattle.archiving.specs.declared.reads.Counts.{Counts}
 use Rattle.archiving.specs.declared.refusals.ReadRefusal.{ReadRefusal}
 use Rattle.archiving.specs.declared.refusals.ReadRefusal.TheVariants.{Carrier, Reading, NoRow}

@@ -2,13 +2,13 @@ ghost use Rattle.std.specs.Prelude.{◌≡◌, ◌<◌, [], ◌∷◌, ◌++◌,
 ghost use Rattle.std.specs.Result.{result_err};
 ghost use Rattle.table.specs.Rows.{held, Fills, revised};
 ghost use Rattle.rows.specs.Kept.{movements_of, texts_of};
-ghost use Rattle.archiving.specs.Entering.{account_row, movement_row, text_row, one_movement_more, one_text_more, converted_to, ended_with, with_entry, full, lacking, Whole};
+ghost use Rattle.rows.specs.Tables.{rows_in, room_in, Holds};
+ghost use Rattle.archiving.specs.Entering.{account_row, movement_row, text_row, one_movement_more, one_text_more, converted_to, ended_with, with_entry, full, lacking, Whole, granted};
 ghost use Rattle.reading.specs.Taken.{kind_told};
-ghost use Rattle.archiving.specs.Filling.{tables, rows_in, room_in, Holds, granted};
 
 use fields::Key;
 use reading::Entry;
-use rows::{AccountRow, MovementRow, TableKind, TextRow};
+use rows::{AccountRow, MovementRow, TableKind, Tables, TextRow};
 use table::Table;
 use values::{AccountHead, Equivalent, Movement};
 
@@ -44,7 +44,8 @@ fn movement_row(movement: Movement, reference: &[u8]) -> MovementRow
 
 // The row of a text.
 fn text_row(one: &[u8], two: &[u8]) -> TextRow
-    requires { (length one.now ≡ 38) × (length two.now ≡ 38) }
+    requires first { length one.now ≡ 38 }
+    requires second { length two.now ≡ 38 }
     ensures { result ≡ text_row one.now two.now }
 {
     let mut first = [b' '; 38];
@@ -113,33 +114,30 @@ fn end(accounts: &mut Table<'_, AccountRow>, key: Key)
 }
 
 /// Enters what a reading tells of a record, or tells which table has no free row for it.
-pub(crate) fn enter(
-    accounts: &mut Table<'_, AccountRow>,
-    movements: &mut Table<'_, MovementRow>,
-    texts: &mut Table<'_, TextRow>,
-    entry: &Entry<'_>,
-) -> Result<(), TableKind>
-    requires { (Whole entry.now) × ((movements_of (rows_in (tables accounts.old movements.old texts.old)).accounts < 4294967295) × (texts_of (rows_in (tables accounts.old movements.old texts.old)).movements < 4294967295)) }
-    ensures answer { result_err result ≡ lacking (room_in (tables accounts.old movements.old texts.old)) (rows_in (tables accounts.old movements.old texts.old)) (kind_told entry.now) }
-    ensures tables { Holds (tables accounts.old movements.old texts.old) (tables accounts.new movements.new texts.new) (granted result (with_entry entry.now (rows_in (tables accounts.old movements.old texts.old))) (rows_in (tables accounts.old movements.old texts.old))) }
+pub(crate) fn enter(tables: &mut Tables<'_>, entry: &Entry<'_>) -> Result<(), TableKind>
+    requires whole { Whole entry.now }
+    requires movements { movements_of (rows_in tables.old).accounts < 4294967295 }
+    requires texts { texts_of (rows_in tables.old).movements < 4294967295 }
+    ensures answer { result_err result ≡ lacking (room_in tables.old) (rows_in tables.old) (kind_told entry.now) }
+    ensures tables { Holds tables.old tables.new (granted result (with_entry entry.now (rows_in tables.old)) (rows_in tables.old)) }
 {
     match *entry {
         Entry::Account(head, name) => {
             let row = account_row(head, name);
-            push(accounts, row, TableKind::Accounts)?;
+            push(&mut tables.accounts, row, TableKind::Accounts)?;
         }
         Entry::Movement(movement, reference) => {
             let row = movement_row(movement, reference);
-            push(movements, row, TableKind::Movements)?;
-            count_movement(accounts);
+            push(&mut tables.movements, row, TableKind::Movements)?;
+            count_movement(&mut tables.accounts);
         }
         Entry::Text(_, first, second) => {
             let row = text_row(first, second);
-            push(texts, row, TableKind::Texts)?;
-            count_text(movements);
+            push(&mut tables.texts, row, TableKind::Texts)?;
+            count_text(&mut tables.movements);
         }
-        Entry::Equivalent(equivalent) => convert(movements, equivalent),
-        Entry::AccountEnd(account_end) => end(accounts, account_end.last.key),
+        Entry::Equivalent(equivalent) => convert(&mut tables.movements, equivalent),
+        Entry::AccountEnd(account_end) => end(&mut tables.accounts, account_end.last.key),
         Entry::FileEnd(_) => {}
     }
     Ok(())

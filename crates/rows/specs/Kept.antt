@@ -2,12 +2,17 @@
 use Rattle.std.specs.Prelude.{ℕ, ◌+◌, List, [], ◌∷◌}
 use Rattle.rows.specs.declared.accounts.AccountRow.{AccountRow}
 use Rattle.rows.specs.declared.movements.MovementRow.{MovementRow}
+use Rattle.rows.specs.declared.tables.Statement.{Statement}
 use Rattle.rows.specs.declared.texts.TextRow.{TextRow}
 
 pub record Rows : Type 0 where
   pub accounts : List AccountRow
   pub movements : List MovementRow
   pub texts : List TextRow
+
+-- the rows that a statement lends
+abbrev pub rows_lent : Statement → Rows
+rows_lent s = record { accounts = s.accounts.now; movements = s.movements.now; texts = s.texts.now }
 
 -- no rows
 abbrev pub no_rows : Rows

@@ -35,7 +35,7 @@ impl<'a, T: Copy> Table<'a, T> {
         Ok(())
     }
 
-    /// Puts another row in the place of a filled one; no where there is none.
+    /// Puts another row in the place of a filled one, and tells whether there is one.
     pub fn set(&mut self, index: usize, row: T) -> bool
         ensures set { WasSet self.old.rows.now self.old.filled index row self.new.rows.now result }
         ensures filled { self.new.filled ≡ self.old.filled }
@@ -52,31 +52,22 @@ impl<'a, T: Copy> Table<'a, T> {
     pub fn get(&self, index: usize) -> Option<T>
         ensures { ReadAt self.now.rows.now self.now.filled index result }
     {
-        match self.rows().get(index) {
-            Some(row) => Some(*row),
-            None => None,
-        }
+        self.rows().get(index).copied()
     }
 
     /// The last filled row and its index, if any is filled.
     pub fn last(&self) -> Option<(usize, T)>
         ensures { LastOf self.now.rows.now self.now.filled result }
     {
-        if self.filled == 0 {
-            return None;
-        }
-        let index = self.filled - 1;
-        match self.get(index) {
-            Some(row) => Some((index, row)),
-            None => None,
-        }
+        let index = self.filled.checked_sub(1)?;
+        Some((index, self.get(index)?))
     }
 
     /// The filled rows.
     pub fn rows(&self) -> &[T]
         ensures { result.now ≡ held self.now.rows.now self.now.filled }
     {
-        &self.rows[0..self.filled]
+        &self.rows[..self.filled]
     }
 
     /// How many rows are filled.

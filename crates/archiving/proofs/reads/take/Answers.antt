@@ -1,16 +1,18 @@
-use Rattle.std.proofs.Common.{Some, None, sym, ap, ◌∙◌, subst, arith}
+use Rattle.std.proofs.Common.{Some, None, sym, ap, ◌∙◌, subst, rules}
 use Rattle.std.specs.Result.{result_err}
 use Rattle.std.proofs.lemmas.Result.{err_from_is_err_and}
 use Rattle.reading.specs.Progress.{progress}
 use Rattle.reading.proofs.Progress.{refused_is, moved_after}
-use Rattle.archiving.specs.Filling.{tables, rows_in, room_in, Holds}
-use Rattle.archiving.proofs.Taking.{whole, entered_by, stopped_by, refused_by, still}
+use Rattle.rows.specs.Tables.{rows_in, room_in, Holds}
+use Rattle.archiving.proofs.Taking.{whole, entered_by, stopped_by, refused_by, still, numbered_by, stop_numbered, granted_numbered, on_any}
+use Rattle.archiving.specs.Entering.{granted}
+use Rattle.archiving.specs.Reads.{entered, unless_taken}
 use Rattle.archiving.proofs.reads.take.Goals as goal
 
 pub returns-in_err-entry : goal.returns-in_err-entry
 returns-in_err-entry c =
     let s = c.args.reading.now in
-    let t = tables c.args.accounts.now c.args.movements.now c.args.texts.now in
+    let t = c.args.tables.now in
     let r = err_from_is_err_and c.from_residual.result c.from_residual.ensures.1 in
     let refusal = sym (ap result_err c.in_err-entry.was) ∙ (c.offer.ensures.refusal ∙ refused_is s c.args.offered.now) in
     record {
@@ -20,35 +22,25 @@ returns-in_err-entry c =
       count = rw r.1 tt;
     }
 
-pub enter-requires : goal.enter-requires
-enter-requires c =
-    let s = c.args.reading.now in
-    (whole s.account c.args.offered.now c.in_ok-entry.entry c.told-offered c.in_ok-entry.ensures.tells, (omega (arith, s.counted, c.requires.1.0), omega (arith, s.counted, c.requires.1.1)))
+pub enter-requires-clause-whole : goal.enter-requires-clause-whole
+enter-requires-clause-whole c = whole c.args.reading.now.account c.args.offered.now c.in_ok-entry.entry c.told-offered c.in_ok-entry.ensures.tells
 
-pub returns-in-Ok : goal.returns-in-Ok
-returns-in-Ok c =
+pub returns : goal.returns
+returns c =
     let s = c.args.reading.now in
-    let t = tables c.args.accounts.now c.args.movements.now c.args.texts.now in
+    let t = c.args.tables.now in
     let o = c.args.offered.now in
     let e = c.in_ok-entry.entry in
+    let n = c.args.number in
     let said = c.in_ok-entry.ensures in
     let is = said.after.kind_there in
+    let rows = rows_in t in
+    let answered = numbered_by n _ (λ table x told. search rules) c.enter.result c.map_err.result c.map_err.ensures.cases in
+    let stop = stopped_by (progress s) o e rows is (room_in t) (said.refusal ∙ refused_is s o) (result_err c.enter.result) c.enter.ensures.answer in
+    let held = ap (λ r. granted c.enter.result r rows) (entered_by (progress s) o e rows is said.tells) ∙ (sym (granted_numbered n c.enter.result _ _) ∙ ap (λ a. granted a (entered (progress s) o rows) rows) (sym answered)) in
     record {
-      answer = stopped_by (progress s) o e (rows_in t) is (room_in t) (said.refusal ∙ refused_is s o) None c.in-Ok.ensures.answer;
-      tables = subst (Holds t (tables c.enter.new.accounts c.enter.new.movements c.enter.new.texts)) (entered_by (progress s) o e (rows_in t) is said.tells) c.in-Ok.ensures.tables;
-      reading = moved_after s _ o _ said.after;
-      count = said.after.one_more;
-    }
-
-pub returns-in-Err : goal.returns-in-Err
-returns-in-Err c =
-    let s = c.args.reading.now in
-    let t = tables c.args.accounts.now c.args.movements.now c.args.texts.now in
-    let o = c.args.offered.now in
-    let said = c.in_ok-entry.ensures in
-    record {
-      answer = rw c.requires.0 (stopped_by (progress s) o c.in_ok-entry.entry (rows_in t) said.after.kind_there (room_in t) (said.refusal ∙ refused_is s o) (Some c.in-Err.table) c.in-Err.ensures.answer);
-      tables = c.in-Err.ensures.tables;
-      reading = tt;
-      count = tt;
+      answer = ap result_err answered ∙ (stop_numbered n c.enter.result ∙ (ap (λ k. unless_taken k None (result_err c.enter.result)) c.requires.number ∙ stop));
+      tables = subst (Holds t c.enter.new.tables) held c.enter.ensures.tables;
+      reading = on_any c.map_err.result (moved_after s _ o _ said.after);
+      count = on_any c.map_err.result said.after.one_more;
     }
