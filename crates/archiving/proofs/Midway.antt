@@ -1,11 +1,14 @@
 -- A read that has come some way. Assumes nothing.
-use Rattle.std.proofs.Common.{◌≡◌, ℕ, ◌+◌, ◌≤◌, List, [], ◌∷◌, length, Some, None, Err, Option, sym, refl, ap, ◌∙◌, subst, ap₂, arith, length-append}
+use Rattle.std.proofs.Common.{◌≡◌, ℕ, ◌+◌, ◌≤◌, List, [], ◌∷◌, length, Bool, true, Some, None, Ok, Err, Option, Result, sym, refl, ap, ◌∙◌, subst, ap₂, arith, length-append}
 use Rattle.fields.specs.declared.keys.Key.{Key}
 use Rattle.fields.specs.declared.modalities.Modality.{Modality}
 use Rattle.values.specs.declared.parts.Equivalent.{Equivalent}
 use Rattle.records.specs.Checks.{columns}
 use Rattle.records.specs.Values.{key_at, account_in, movement_in, equivalent_in}
-use Rattle.media.specs.declared.carriers.Ending.{Ending}
+use Rattle.media.proofs.Midway.{record_drawn}
+use Rattle.media.specs.Endings.{Ending}
+use Rattle.media.specs.Meaning.{Draws}
+use Rattle.media.specs.declared.carriers.Fault.{Fault}
 use Rattle.reading.specs.Offers.{kind_in}
 use Rattle.reading.specs.Progress.{Progress, at_start, after}
 use Rattle.reading.specs.declared.kinds.Kind.{Kind}
@@ -18,7 +21,7 @@ use Rattle.rows.specs.declared.archive.Tables.{Tables}
 use Rattle.rows.specs.declared.movements.MovementRow.{MovementRow}
 use Rattle.rows.specs.declared.texts.TextRow.{TextRow}
 use Rattle.archiving.specs.Entering.{account_row, movement_row, text_row, one_movement_more, one_text_more, ended_with, converted_to, with_account, with_movement, with_text, with_equivalent, with_end, entered_as}
-use Rattle.archiving.specs.Reads.{of_kind, entered, stopping, at_end, unless_stopped, outcome, read_of}
+use Rattle.archiving.specs.Reads.{Outcome, of_kind, entered, stopping, at_end, unless_stopped, outcome, read_of}
 use Rattle.archiving.specs.declared.refusals.ReadRefusal.{ReadRefusal}
 use Rattle.archiving.proofs.Counting.{sum_append, sum_revised}
 
@@ -109,6 +112,19 @@ then_holds t t' t'' rows rows' h h' g = record {
 -- over tables that were emptied first
 pub from_empty : (t t₀ t' : Tables) (rows : Rows) → Holds t t₀ no_rows → Holds t₀ t' rows → Holds t t' rows
 from_empty t t₀ t' rows h h' = then_holds t t₀ t' no_rows rows h h' (record { accounts = omega arith; movements = omega arith; texts = omega arith })
+
+-- so what a read over the emptied tables comes to is what it comes to over those that were given
+pub come_to : (given emptied left : Tables) (all : List (List ℕ)) (e : Ending) (o : Outcome) → Holds given emptied no_rows → read_of (room_in emptied) all e ≡ o → Holds emptied left o.rows → (o.answer ≡ (read_of (room_in given) all e).answer) × Holds given left (read_of (room_in given) all e).rows × (o.left ≡ (read_of (room_in given) all e).left)
+come_to given emptied left all e o h is holds =
+    let whole = ap (λ room. read_of room all e) (sym (same_room given emptied _ h)) ∙ is in (
+      sym (ap (λ (o : Outcome). o.answer) whole),
+      subst (Holds given left) (sym (ap (λ (o : Outcome). o.rows) whole)) (from_empty given emptied left _ h holds),
+      sym (ap (λ (o : Outcome). o.left) whole),
+    )
+
+-- a record that was drawn was the first one left
+pub drew : (rs : List (List ℕ)) (e : Ending) (left : List (List ℕ)) (into filled : List ℕ) (d : Result Bool Fault) → d ≡ Ok true → Draws rs e into left filled d → rs ≡ filled ∷ left
+drew rs e left into filled d is drawn = (record_drawn rs e left into filled true refl (subst (Draws rs e into left filled) is drawn)).0
 
 -- the records left are read, from here, as all are from the start
 pub record Midway (t₀ t : Tables) (p : Progress) (all left : List (List ℕ)) (e : Ending) : Type 0 where

@@ -68,22 +68,27 @@ still t = record {
   texts_lent = refl;
 }
 
--- what the tables answer, told with the number of the record
-abbrev pub numbered : ℕ → Result (Unit {0}) TableKind → Result (Unit {0}) ReadRefusal
-numbered n (Ok u) = Ok u
-numbered n (Err table) = Err (NoRow table n)
+-- an answer whose refusal is told in another form
+abbrev pub told_as : {A E : Type 0} → (E → ReadRefusal) → Result A E → Result A ReadRefusal
+told_as f (Ok x) = Ok x
+told_as f (Err e) = Err (f e)
 
-pub numbered_by : (n : ℕ) (Told : TableKind → ReadRefusal → Type 0) → ((table : TableKind) (x : ReadRefusal) → Told table x → x ≡ NoRow table n) → (entered : Result (Unit {0}) TableKind) (answer : Result (Unit {0}) ReadRefusal) → MatchResult entered (λ u. answer ≡ Ok u) (λ table. IsErrAnd answer (Told table)) → answer ≡ numbered n entered
-numbered_by n Told is (Ok u) answer h = h
-numbered_by n Told is (Err table) answer h = let e = err_from_is_err_and answer h in e.1 ∙ ap Err (is table e.0 e.2)
+module _ {A E : Type 0} (f : E → ReadRefusal) where
+  pub told_by : (Told : E → ReadRefusal → Type 0) → ((e : E) (x : ReadRefusal) → Told e x → x ≡ f e) → (answer : Result A E) (told : Result A ReadRefusal) → MatchResult answer (λ a. told ≡ Ok a) (λ e. IsErrAnd told (Told e)) → told ≡ told_as f answer
+  told_by Told is (Ok a) told h = h
+  told_by Told is (Err e) told h = let x = err_from_is_err_and told h in x.1 ∙ ap Err (is e x.0 x.2)
 
-pub stop_numbered : (n : ℕ) (entered : Result (Unit {0}) TableKind) → result_err (numbered n entered) ≡ unless_taken n None (result_err entered)
-stop_numbered n (Ok u) = refl
-stop_numbered n (Err table) = refl
+  pub granted_told : (answer : Result A E) (one other : Rows) → granted (told_as f answer) one other ≡ granted answer one other
+  granted_told (Ok a) one other = refl
+  granted_told (Err e) one other = refl
 
-pub granted_numbered : (n : ℕ) (entered : Result (Unit {0}) TableKind) (one other : Rows) → granted (numbered n entered) one other ≡ granted entered one other
-granted_numbered n (Ok u) one other = refl
-granted_numbered n (Err table) one other = refl
+  pub told_ok : (answer : Result A E) (a : A) → told_as f answer ≡ Ok a → answer ≡ Ok a
+  told_ok (Ok b) a h = cc
+  told_ok (Err e) a h = cc
+
+pub stop_told : (n : ℕ) (entered : Result (Unit {0}) TableKind) → result_err (told_as (λ table. NoRow table n) entered) ≡ unless_taken n None (result_err entered)
+stop_told n (Ok u) = refl
+stop_told n (Err table) = refl
 
 pub on_any : {T E P : Type 0} (answer : Result T E) → P → OnOk answer P
 on_any (Ok x) p = p

@@ -1,8 +1,7 @@
 -- What a read answers, what it leaves in the tables and what on the carrier. Assumes nothing.
 use Rattle.std.specs.Prelude.{ℕ, ◌+◌, List, [], ◌∷◌, length, Some, None, Ok, Err, Option, Result}
 use Rattle.std.specs.Option.{option_map}
-use Rattle.media.specs.declared.carriers.Ending.{Ending}
-use Rattle.media.specs.declared.carriers.Ending.TheVariants.{Clean, Broken}
+use Rattle.media.specs.Endings.{Ending}
 use Rattle.reading.specs.Offers.{kind_in}
 use Rattle.reading.specs.Progress.{Progress, at_start, refused, after}
 use Rattle.reading.specs.Taken.{closing}
@@ -52,8 +51,8 @@ closed t (Err refusal) = Err (Reading refusal)
 
 -- at the end of the carrier
 abbrev pub at_end : Progress → Rows → Ending → Result Counts ReadRefusal
-at_end p t Clean = closed t (closing p.phase p.taken)
-at_end p t (Broken fault) = Err (Carrier fault (p.taken + 1))
+at_end p t (Ok _) = closed t (closing p.phase p.taken)
+at_end p t (Err fault) = Err (Carrier fault (p.taken + 1))
 
 abbrev pub unless_stopped : Option ReadRefusal → Rows → List (List ℕ) → Outcome → Outcome
 unless_stopped (Some refusal) t left on = record { answer = Err refusal; rows = t; left = left }

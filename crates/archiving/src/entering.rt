@@ -1,6 +1,7 @@
-ghost use Rattle.std.specs.Prelude.{◌≡◌, ◌<◌, [], ◌∷◌, ◌++◌, length};
+ghost use Rattle.std.specs.Prelude.{◌≡◌, ℕ, ◌<◌, [], ◌∷◌, ◌++◌, length};
+ghost use Rattle.std.specs.Fn.{FnOnceReturnsAtMut, FnOnceTakesAtMut};
 ghost use Rattle.std.specs.Result.{result_err};
-ghost use Rattle.table.specs.Rows.{held, Fills, revised};
+ghost use Rattle.table.specs.Rows.{held, LastOf, Fills, revised};
 ghost use Rattle.rows.specs.Kept.{movements_of, texts_of};
 ghost use Rattle.rows.specs.Tables.{rows_in, room_in, Holds};
 ghost use Rattle.archiving.specs.Entering.{account_row, movement_row, text_row, one_movement_more, one_text_more, converted_to, ended_with, with_entry, full, lacking, Whole, granted};
@@ -17,11 +18,9 @@ fn account_row(head: AccountHead, name: &[u8]) -> AccountRow
     requires { length name.now ≡ 26 }
     ensures { result ≡ account_row head name.now }
 {
-    let mut characters = [b' '; 26];
-    characters.copy_from_slice(name);
     AccountRow {
         head,
-        name: characters,
+        name: name.try_into().unwrap(),
         movements: 0,
         final_key: None,
     }
@@ -32,27 +31,24 @@ fn movement_row(movement: Movement, reference: &[u8]) -> MovementRow
     requires { length reference.now ≡ 16 }
     ensures { result ≡ movement_row movement reference.now }
 {
-    let mut reference_2 = [b' '; 16];
-    reference_2.copy_from_slice(reference);
     MovementRow {
         movement,
-        reference_2,
+        reference_2: reference.try_into().unwrap(),
         texts: 0,
         equivalent: None,
     }
 }
 
 // The row of a text.
-fn text_row(one: &[u8], two: &[u8]) -> TextRow
-    requires first { length one.now ≡ 38 }
-    requires second { length two.now ≡ 38 }
-    ensures { result ≡ text_row one.now two.now }
+fn text_row(first: &[u8], second: &[u8]) -> TextRow
+    requires first { length first.now ≡ 38 }
+    requires second { length second.now ≡ 38 }
+    ensures { result ≡ text_row first.now second.now }
 {
-    let mut first = [b' '; 38];
-    first.copy_from_slice(one);
-    let mut second = [b' '; 38];
-    second.copy_from_slice(two);
-    TextRow { first, second }
+    TextRow {
+        first: first.try_into().unwrap(),
+        second: second.try_into().unwrap(),
+    }
 }
 
 // A row more in a table of this kind, if one is free.
@@ -61,55 +57,18 @@ fn push<T: Copy>(table: &mut Table<'_, T>, row: T, kind: TableKind) -> Result<()
     ensures rows { Fills table.old.rows.now table.new.rows.now table.new.filled (granted result (held table.old.rows.now table.old.filled ++ (row ∷ [])) (held table.old.rows.now table.old.filled)) }
     ensures lent { table.new.rows.ghost_name ≡ table.old.rows.ghost_name }
 {
-    match table.push(row) {
-        Ok(()) => Ok(()),
-        Err(_) => Err(kind),
-    }
+    table.push(row).map_err(|_| kind)
 }
 
-// One movement more in the last account.
-fn count_movement(accounts: &mut Table<'_, AccountRow>)
-    requires { movements_of (held accounts.old.rows.now accounts.old.filled) < 4294967295 }
-    ensures rows { Fills accounts.old.rows.now accounts.new.rows.now accounts.new.filled (revised one_movement_more (held accounts.old.rows.now accounts.old.filled)) }
-    ensures lent { accounts.new.rows.ghost_name ≡ accounts.old.rows.ghost_name }
+// Changes the last row, where there is one.
+fn revise_last<T: Copy, F: FnOnce(&mut T)>(table: &mut Table<'_, T>, change: F)
+    requires { (last : ℕ × T) → LastOf table.old.rows.now table.old.filled (Some last) → FnOnceTakesAtMut F.FnOnce change last.1 }
+    ensures rows { (changed : T → T) → ((row result : T) → FnOnceReturnsAtMut F.FnOnce change row tt result → result ≡ changed row) → Fills table.old.rows.now table.new.rows.now table.new.filled (revised changed (held table.old.rows.now table.old.filled)) }
+    ensures lent { table.new.rows.ghost_name ≡ table.old.rows.ghost_name }
 {
-    if let Some((last, row)) = accounts.last() {
-        let movements = row.movements + 1;
-        accounts.set(last, AccountRow { movements, ..row });
-    }
-}
-
-// One text more in the last movement.
-fn count_text(movements: &mut Table<'_, MovementRow>)
-    requires { texts_of (held movements.old.rows.now movements.old.filled) < 4294967295 }
-    ensures rows { Fills movements.old.rows.now movements.new.rows.now movements.new.filled (revised one_text_more (held movements.old.rows.now movements.old.filled)) }
-    ensures lent { movements.new.rows.ghost_name ≡ movements.old.rows.ghost_name }
-{
-    if let Some((last, row)) = movements.last() {
-        let texts = row.texts + 1;
-        movements.set(last, MovementRow { texts, ..row });
-    }
-}
-
-// The equivalent of the last movement.
-fn convert(movements: &mut Table<'_, MovementRow>, equivalent: Equivalent)
-    ensures rows { Fills movements.old.rows.now movements.new.rows.now movements.new.filled (revised (converted_to equivalent) (held movements.old.rows.now movements.old.filled)) }
-    ensures lent { movements.new.rows.ghost_name ≡ movements.old.rows.ghost_name }
-{
-    if let Some((last, row)) = movements.last() {
-        let equivalent = Some(equivalent);
-        movements.set(last, MovementRow { equivalent, ..row });
-    }
-}
-
-// The final key of the last account.
-fn end(accounts: &mut Table<'_, AccountRow>, key: Key)
-    ensures rows { Fills accounts.old.rows.now accounts.new.rows.now accounts.new.filled (revised (ended_with key) (held accounts.old.rows.now accounts.old.filled)) }
-    ensures lent { accounts.new.rows.ghost_name ≡ accounts.old.rows.ghost_name }
-{
-    if let Some((last, row)) = accounts.last() {
-        let final_key = Some(key);
-        accounts.set(last, AccountRow { final_key, ..row });
+    if let Some((last, mut row)) = table.last() {
+        change(&mut row);
+        table.set(last, row);
     }
 }
 
@@ -129,15 +88,23 @@ pub(crate) fn enter(tables: &mut Tables<'_>, entry: &Entry<'_>) -> Result<(), Ta
         Entry::Movement(movement, reference) => {
             let row = movement_row(movement, reference);
             push(&mut tables.movements, row, TableKind::Movements)?;
-            count_movement(&mut tables.accounts);
+            revise_last(&mut tables.accounts, |row| row.movements += 1);
         }
         Entry::Text(_, first, second) => {
             let row = text_row(first, second);
             push(&mut tables.texts, row, TableKind::Texts)?;
-            count_text(&mut tables.movements);
+            revise_last(&mut tables.movements, |row| row.texts += 1);
         }
-        Entry::Equivalent(equivalent) => convert(&mut tables.movements, equivalent),
-        Entry::AccountEnd(account_end) => end(&mut tables.accounts, account_end.last.key),
+        Entry::Equivalent(equivalent) => {
+            revise_last(
+                &mut tables.movements,
+                |row| row.equivalent = Some(equivalent),
+            );
+        }
+        Entry::AccountEnd(account_end) => {
+            let key = account_end.last.key;
+            revise_last(&mut tables.accounts, |row| row.final_key = Some(key));
+        }
         Entry::FileEnd(_) => {}
     }
     Ok(())

@@ -4,11 +4,11 @@ ghost use Rattle.reading.specs.Progress.{progress, after};
 ghost use Rattle.rows.specs.Kept.{movements_of, texts_of};
 ghost use Rattle.rows.specs.Tables.{rows_in, room_in, Holds};
 ghost use Rattle.archiving.specs.Entering.{granted};
-ghost use Rattle.archiving.specs.Reads.{stopping, entered, at_end, read_of};
+ghost use Rattle.archiving.specs.Reads.{stopping, entered, read_of};
 
 use crate::entering::enter;
 use crate::refusals::ReadRefusal;
-use media::{Carrier, Drawn, Ending};
+use media::Carrier;
 use reading::Reading;
 use rows::Tables;
 
@@ -39,29 +39,6 @@ fn take(
     enter(tables, &entry).map_err(|table| ReadRefusal::NoRow(table, number))
 }
 
-// The answer where the carrier has ended, and the record of this number would come.
-fn finish(
-    reading: &Reading,
-    tables: &Tables<'_>,
-    ending: Ending,
-    number: u32,
-) -> Result<Counts, ReadRefusal>
-    requires { number ≡ (progress reading.now).taken + 1 }
-    ensures { result ≡ at_end (progress reading.now) (rows_in tables.now) ending }
-{
-    match ending {
-        Ending::Clean => {
-            reading.close()?;
-            Ok(Counts {
-                accounts: tables.accounts.len(),
-                movements: tables.movements.len(),
-                texts: tables.texts.len(),
-            })
-        }
-        Ending::Broken(fault) => Err(ReadRefusal::Carrier(fault, number)),
-    }
-}
-
 /// Reads the records left on a carrier into tables, which it empties first. It stops at the first record that the reading
 /// refuses or that no free row is left for, and otherwise at the carrier's end; nothing is drawn after that.
 pub fn read<C: Carrier>(carrier: &mut C, tables: &mut Tables<'_>) -> Result<Counts, ReadRefusal>
@@ -75,11 +52,17 @@ pub fn read<C: Carrier>(carrier: &mut C, tables: &mut Tables<'_>) -> Result<Coun
     let mut reading = Reading::new();
     let mut offered = [b' '; 80];
     let mut number = 1;
-    loop {
-        match carrier.draw(&mut offered) {
-            Drawn::Record => take(&mut reading, tables, &offered, number)?,
-            Drawn::Ended(ending) => return finish(&reading, tables, ending, number),
-        }
+    while carrier
+        .draw(&mut offered)
+        .map_err(|fault| ReadRefusal::Carrier(fault, number))?
+    {
+        take(&mut reading, tables, &offered, number)?;
         number += 1;
     }
+    reading.close()?;
+    Ok(Counts {
+        accounts: tables.accounts.len(),
+        movements: tables.movements.len(),
+        texts: tables.texts.len(),
+    })
 }

@@ -25,12 +25,11 @@ impl From<Refusal> for ReadRefusal {
     }
 }
 
-impl ReadRefusal {
-    /// What this refusal tells.
-    pub fn notice(self) -> Notice
-        ensures { result ≡ read_notice self }
-    {
-        match self {
+impl From<ReadRefusal> for Notice {
+    ghost from_gives = { λ refusal notice. notice ≡ read_notice refusal };
+
+    fn from(refusal: ReadRefusal) -> Notice {
+        match refusal {
             ReadRefusal::Carrier(fault, record) => Notice {
                 layer: Layer::Carrier,
                 number: fault.number,

@@ -1,6 +1,5 @@
 ghost use Rattle.std.specs.Prelude.{◌≡◌};
-ghost use Rattle.charset.specs.Characters.{characters, is_character};
-ghost use Rattle.charset.specs.Coding.{among};
+ghost use Rattle.charset.specs.Characters.{is_character};
 
 /// How many characters there are.
 pub const CHARACTER_COUNT: usize = 57;
@@ -12,16 +11,10 @@ pub const ENYE: u8 = 165;
 pub const CHARACTERS: [u8; CHARACTER_COUNT] =
     *b" 0123456789ABCDEFGHIJKLMNOPQRSTUVWXYZ\xA5.<(+&*);-/,%_>?:'=\"";
 
-/// Whether a byte is a character.
+/// Whether a byte is a character. In code page 850 they lie in six runs.
+#[tactic(auto, unfolding(crate::specs::Characters::is_character))]
 pub fn is_character(byte: u8) -> bool
     ensures { result ≡ is_character byte }
-{
-    in_the_runs(byte)
-}
-
-// In code page 850 the characters lie in six runs.
-fn in_the_runs(byte: u8) -> bool
-    ensures { result ≡ among byte characters }
 {
     matches!(byte, b' ' | b'"' | b'%'..=b'?' | b'A'..=b'Z' | b'_' | ENYE)
 }

@@ -5,7 +5,7 @@ use native.Mathlib.Nat.{pow-succ', pow-le-pow_right}
 use Rattle.std.proofs.Math.Nat.{one-le-pow}
 use Rattle.std.proofs.lemmas.List.{append-nil, append_assoc, length_push, drop_more, drop_all}
 use Rattle.std.proofs.lemmas.Bool.{leb-true, le-leb, lt-ltb, le-ltb, ltb-true, and_parts, and_from, and_right, cases_lt, cond-true, cond-false}
-use Rattle.fields.specs.Decimal.{is_digit, all_digits, value_from, value, number_from, number, fits, decimal, WrittenBack}
+use Rattle.fields.specs.Decimal.{is_digit, all_digits, value_from, value, number_from, number, fits, decimal}
 
 -- a digit is a byte from 48 to 57
 pub digit_bounds : (b : ℕ) → is_digit b ≡ true → (48 ≤ b) × (b ≤ 57)
@@ -153,10 +153,6 @@ decimal_number bs n h =
     let p = number_some bs n h in
     ap (decimal (length bs)) (sym p.1) ∙ decimal_value bs p.0
 
-pub written_back : (bs : List ℕ) (o : Option ℕ) → o ≡ number bs → WrittenBack bs o
-written_back bs None h = tt
-written_back bs (Some n) h = decimal_number bs n (sym h)
-
 pub number_below : (bs : List ℕ) (n : ℕ) → number bs ≡ Some n → n < 10 ^ length bs
 number_below bs n h =
     let p = number_some bs n h in
@@ -165,3 +161,8 @@ number_below bs n h =
 -- a field that is filled from its last place on
 pub filled : (w n : ℕ) (rest : List ℕ) → decimal (w + 1) n ++ rest ≡ decimal w (n / 10) ++ ((48 + n % 10) ∷ rest)
 filled w n rest = rw add-one (append_assoc (decimal w (n / 10)) ((48 + n % 10) ∷ []) rest)
+
+-- what reading a field rests on, and what filling one does
+pub ruleset reading = (number_digit, number_no_digit, number_past, number_end, decimal_number)
+
+pub ruleset writing = (filled, number_decimal)

@@ -6,22 +6,24 @@ ghost use Rattle.fields.specs.Decimal.{fits, decimal, number as number_in, Writt
 pub struct TooWide;
 
 /// The number that a field spells in decimal digits, unless a byte is no digit or the number passes 64 bits.
+#[tactic(auto, using(crate::proofs::Decimal::reading))]
 pub fn read_number(field: &[u8]) -> Option<u64>
     ensures value { result ≡ number_in field.now }
     ensures back { WrittenBack field.now result }
 {
     let mut value: u64 = 0;
-    for byte in field {
+    for &byte in field {
         if !byte.is_ascii_digit() {
             return None;
         }
-        value = value.checked_mul(10)?.checked_add(u64::from(*byte - b'0'))?;
+        value = value.checked_mul(10)?.checked_add(u64::from(byte - b'0'))?;
     }
     Some(value)
 }
 
 /// Fills a field with a number in decimal digits, with zeros in front; one that has too many digits is refused, and
 /// leaves the field as it was.
+#[tactic(auto, using(crate::proofs::Decimal::writing))]
 pub fn write_number(field: &mut [u8], number: u64) -> Result<(), TooWide>
     ensures answer { is_ok result ≡ fits (length field.old) number }
     ensures written { field.new ≡ (if fits (length field.old) number then decimal (length field.old) number else field.old) }

@@ -5,6 +5,7 @@ ghost use Rattle.fields.specs.Reference.{check_digit, is_reference};
 const WEIGHTS: [u64; 11] = [2, 3, 4, 5, 6, 7, 8, 9, 2, 3, 4];
 
 /// The check digit of a number of eleven digits.
+#[tactic(auto, using(crate::proofs::Reference::weighted_step))]
 pub fn check_digit(number: u64) -> u8
     ensures { result ≡ check_digit number }
 {

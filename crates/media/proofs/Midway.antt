@@ -3,24 +3,16 @@ use Rattle.std.proofs.Common.{◌≡◌, ℕ, ◌+◌, ◌-◌, Bool, true, fals
 use Rattle.std.proofs.lemmas.List.{take_at, drop_at}
 use Rattle.std.proofs.lemmas.Bool.{eqb-true, cond-true}
 use Rattle.media.specs.Copying.{Copies}
-use Rattle.media.specs.Meaning.{is_record, none_drawn, Draws, putting}
+use Rattle.media.specs.Meaning.{is_record, Draws, putting}
 use Rattle.media.specs.Endings.{Ending}
 use Rattle.media.specs.declared.outputs.PutRefusal.{PutRefusal}
 use Rattle.media.specs.declared.outputs.PutRefusal.TheVariants.{NotARecord, NoPlace}
 
--- what a drawn record, and an ending, say of the records that were left
+-- what a drawn record says of the records that were left
 pub record_drawn : (rs : List (List ℕ)) (e : Ending) (left : List (List ℕ)) (into r : List ℕ) (b : Bool) → b ≡ true → Draws rs e into left r (Ok b) → (rs ≡ r ∷ left) × (is_record r ≡ true)
 record_drawn [] (Ok u) left into r b is d = absurd (let h = d.0 in cc)
 record_drawn [] (Err fault) left into r b is d = absurd (let h = d.0 in cc)
 record_drawn (x ∷ rs) e left into r b is d = (ap₂ (λ a b. a ∷ b) (sym d.2) (sym d.1), subst (λ (y : List ℕ). is_record y ≡ true) (sym d.2) d.3)
-
-pub ending_drawn : (rs : List (List ℕ)) (e e' : Ending) (left : List (List ℕ)) (into after : List ℕ) → Draws rs e into left after (none_drawn e') → (rs ≡ []) × (left ≡ []) × (e ≡ e')
-ending_drawn [] (Ok u) (Ok v) left into after d = (refl, d.1, refl)
-ending_drawn [] (Ok u) (Err fault) left into after d = absurd (let h = d.0 in cc)
-ending_drawn [] (Err fault) (Ok v) left into after d = absurd (let h = d.0 in cc)
-ending_drawn [] (Err fault) (Err fault') left into after d = let h = d.0 in (refl, d.1, cc)
-ending_drawn (x ∷ rs) e (Ok v) left into after d = absurd (let h = d.0 in cc)
-ending_drawn (x ∷ rs) e (Err fault) left into after d = absurd (let h = d.0 in cc)
 
 -- some records are taken from the carrier and put to the output
 pub record Midway (rs left put put' : List (List ℕ)) (places places' : ℕ) : Type 0 where

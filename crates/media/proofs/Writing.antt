@@ -1,6 +1,6 @@
 -- A record that is encoded and written. Assumes nothing.
-use Rattle.std.proofs.Common.{◌≡◌, ℕ, suc, ◌+◌, ◌-◌, ◌<◌, ◌≤◌, Bool, true, false, cond, not, ◌&&◌, eqb, List, [], ◌∷◌, ◌++◌, length, get_or, take, drop, set, is_some, Some, None, Option, unwrap_or, sym, refl, ap, ◌∙◌, ap₂, append_assoc, add-zero, add_assoc, arith, length-append, length-drop, take-append-drop}
-use Rattle.std.proofs.lemmas.List.{drop-drop, drop_more, drop_at, take_at, take_more, length-take-le, set-append_right}
+use Rattle.std.proofs.Common.{◌≡◌, ℕ, suc, ◌+◌, ◌≤◌, Bool, true, false, cond, not, ◌&&◌, eqb, List, [], ◌∷◌, ◌++◌, length, take, drop, is_some, Some, None, Option, unwrap_or, sym, refl, ap, ◌∙◌, ap₂, append_assoc, arith, length-append, length-drop}
+use Rattle.std.proofs.lemmas.List.{drop-drop, drop_at, take_at, length-take-le}
 use Rattle.std.proofs.lemmas.Bool.{and_from, and_right, and_parts, eq-eqb, not-true, not-false}
 use Rattle.charset.specs.Characters.{is_character}
 use Rattle.charset.specs.Tables.{decoded, encoded}
@@ -9,25 +9,6 @@ use Rattle.charset.proofs.Tables.{encoded_some, decoded_back}
 use Rattle.media.specs.Meaning.{all_characters, is_record}
 use Rattle.media.specs.Translation.{translated, first_without}
 use Rattle.media.specs.Images.{bytes_after}
-
--- one byte more of a part
-pub part_more : (xs ys : List ℕ) (p i : ℕ) → i < length ys → p + length ys ≤ length xs → set (bytes_after xs p (take i ys)) (p + i) (get_or ys i 0) ≡ bytes_after xs p (take (i + 1) ys)
-part_more xs ys p i h fits =
-    let front : length (take p xs) ≡ p = length-take-le p xs (omega arith) in
-    let middle : length (take i ys) ≡ i = length-take-le i ys (omega arith) in
-    let middle' : length (take (i + 1) ys) ≡ i + 1 = length-take-le (i + 1) ys (omega arith) in
-    let v = get_or ys i 0 in
-    let into : set (drop (p + i) xs) (p + i - p - i) v ≡ v ∷ drop (p + (i + 1)) xs =
-    ap (λ n. set (drop (p + i) xs) n v) zero_left ∙ (ap (λ l. set l 0 v) (drop_more xs (p + i) 0 (omega arith)) ∙ ap (λ n. v ∷ drop n xs) (add_assoc p i 1)) in
-    rw (middle, middle', take_more ys i 0 h, append_assoc (take i ys) (v ∷ []) (drop (p + (i + 1)) xs))
-    (set-append_right (take p xs) (take i ys ++ drop (p + i) xs) p (p + i) v front (omega arith)
-    ∙ ap (λ l. take p xs ++ l) (set-append_right (take i ys) (drop (p + i) xs) i (p + i - p) v middle (omega arith) ∙ ap (λ l. take i ys ++ l) into))
-  where
-    zero_left : p + i - p - i ≡ 0
-    zero_left = omega arith
-
-pub part_none : (xs : List ℕ) (p : ℕ) → p ≤ length xs → xs ≡ bytes_after xs p []
-part_none xs p h = sym (ap (λ n. take p xs ++ drop n xs) (add-zero p) ∙ take-append-drop p xs)
 
 pub part_length : (xs ys : List ℕ) (p : ℕ) → p + length ys ≤ length xs → length (bytes_after xs p ys) ≡ length xs
 part_length xs ys p fits =

@@ -47,10 +47,10 @@ contents_in (suc turns) f t rest p = before (standing f t rest p) (contents_in t
 abbrev pub contents : Framing → CodeTable → List ℕ → ℕ → Contents
 contents f t rest p = contents_in (length rest) f t rest p
 
--- all bytes read as characters, or the index of the first that does not
-abbrev pub Decodes : CodeTable → List ℕ → Result (List ℕ) ℕ → Type 0
-Decodes t bs (Ok cs) = (first_without (decoded t) bs 0 ≡ None) × (cs ≡ translated (decoded t) bs)
-Decodes t bs (Err i) = first_without (decoded t) bs 0 ≡ Some i
+-- all bytes read as characters, or the place of the first that does not
+abbrev pub Decodes : CodeTable → List ℕ → ℕ → Result (List ℕ) VolumeFault → Type 0
+Decodes t bs p (Ok cs) = Ok (Some cs) ≡ read_all t bs p (first_without (decoded t) bs 0)
+Decodes t bs p (Err fault) = Err fault ≡ read_all t bs p (first_without (decoded t) bs 0)
 
 -- whether bytes are whole records and nothing else
 abbrev pub reads_clean : Framing → CodeTable → List ℕ → Bool

@@ -1,8 +1,9 @@
 ghost use Rattle.std.specs.Prelude.{max, []};
+ghost use Rattle.media.specs.Endings.{Ending};
 
 use crate::volumes::show_copy;
 use charset::{CodePage, CodeTable};
-use media::{Carrier, Drawn, Ending, Fault, Framing, Joined, Volume};
+use media::{Carrier, Ending, Fault, Framing, Joined, Volume};
 use std::io;
 
 // A carrier of many volumes without records.
@@ -23,22 +24,22 @@ impl Carrier for Empty {
         self.volumes.max(1)
     }
 
-    fn draw(&mut self, _into: &mut [u8; 80]) -> Drawn {
-        Drawn::Ended(self.ending)
+    fn draw(&mut self, _into: &mut [u8; 80]) -> Result<bool, Fault> {
+        self.ending.map(|_| false)
     }
 }
 
 fn clean(volumes: u16) -> Empty {
     Empty {
         volumes,
-        ending: Ending::Clean,
+        ending: Ok(()),
     }
 }
 
 fn broken(volumes: u16, volume: u16) -> Empty {
     Empty {
         volumes,
-        ending: Ending::Broken(Fault {
+        ending: Err(Fault {
             number: 99,
             place: 7,
             volume,
@@ -48,55 +49,18 @@ fn broken(volumes: u16, volume: u16) -> Empty {
 
 pub fn show(rt: &HostRuntime) -> io::Result<()> {
     println!(rt; "joined")?;
-    show_copy(
-        rt,
-        &mut Joined {
-            first: clean(1),
-            second: clean(1),
-        },
-    )?;
-    show_copy(
-        rt,
-        &mut Joined {
-            first: clean(65534),
-            second: clean(1),
-        },
-    )?;
-    show_copy(
-        rt,
-        &mut Joined {
-            first: clean(65535),
-            second: clean(1),
-        },
-    )?;
-    show_copy(
-        rt,
-        &mut Joined {
-            first: clean(65535),
-            second: clean(65535),
-        },
-    )?;
-    show_copy(
-        rt,
-        &mut Joined {
-            first: clean(65534),
-            second: broken(9, 1),
-        },
-    )?;
-    show_copy(
-        rt,
-        &mut Joined {
-            first: clean(65534),
-            second: broken(9, 2),
-        },
-    )?;
-    show_copy(
-        rt,
-        &mut Joined {
-            first: broken(3, 2),
-            second: broken(9, 5),
-        },
-    )?;
+    let pairs = [
+        (clean(1), clean(1)),
+        (clean(65534), clean(1)),
+        (clean(65535), clean(1)),
+        (clean(65535), clean(65535)),
+        (clean(65534), broken(9, 1)),
+        (clean(65534), broken(9, 2)),
+        (broken(3, 2), broken(9, 5)),
+    ];
+    for (first, second) in pairs {
+        show_copy(rt, &mut Joined { first, second })?;
+    }
     show_volumes(rt)
 }
 
@@ -104,48 +68,24 @@ pub fn show(rt: &HostRuntime) -> io::Result<()> {
 fn show_volumes(rt: &HostRuntime) -> io::Result<()> {
     let good = [b' '; 160];
     let bad = [b' '; 81];
-    let one = Volume::new(
-        &good[0..80],
-        Framing::Blocks,
-        CodeTable::from(CodePage::Page850),
-    );
-    let two = Volume::new(&good, Framing::Blocks, CodeTable::from(CodePage::Page850));
-    show_copy(
-        rt,
-        &mut Joined {
-            first: one,
-            second: two,
-        },
-    )?;
-    let short = Volume::new(&bad, Framing::Blocks, CodeTable::from(CodePage::Page850));
-    let two = Volume::new(&good, Framing::Blocks, CodeTable::from(CodePage::Page850));
-    show_copy(
-        rt,
-        &mut Joined {
-            first: short,
-            second: two,
-        },
-    )?;
-    let one = Volume::new(
-        &good[0..80],
-        Framing::Blocks,
-        CodeTable::from(CodePage::Page850),
-    );
-    let short = Volume::new(&bad, Framing::Blocks, CodeTable::from(CodePage::Page850));
-    show_copy(
-        rt,
-        &mut Joined {
-            first: one,
-            second: short,
-        },
-    )?;
-    let two = Volume::new(&good, Framing::Blocks, CodeTable::from(CodePage::Page850));
-    let more = Volume::new(&good, Framing::Blocks, CodeTable::from(CodePage::Page850));
-    show_copy(
-        rt,
-        &mut Joined {
-            first: two,
-            second: more,
-        },
-    )
+    let pairs = [
+        (&good[..80], &good[..]),
+        (&bad[..], &good[..]),
+        (&good[..80], &bad[..]),
+        (&good[..], &good[..]),
+    ];
+    for (first, second) in pairs {
+        show_copy(
+            rt,
+            &mut Joined {
+                first: blocks(first),
+                second: blocks(second),
+            },
+        )?;
+    }
+    Ok(())
+}
+
+fn blocks(bytes: &[u8]) -> Volume<'_> {
+    Volume::new(bytes, Framing::Blocks, CodeTable::from(CodePage::Page850))
 }

@@ -24,12 +24,9 @@ fn show_page(rt: &HostRuntime, table: &CodeTable) -> io::Result<()> {
         let back = table.decode(byte).unwrap_or(0);
         print!(rt; "{character:02X}-{byte:02X}-{back:02X} ")?;
     }
-    let mut none = 0u16;
-    for byte in 0..=255u8 {
-        if table.decode(byte).is_none() {
-            none = none.saturating_add(1);
-        }
-    }
+    let none = (0..=255)
+        .filter(|byte| table.decode(*byte).is_none())
+        .count();
     println!(rt; "none {none}")
 }
 
@@ -37,12 +34,7 @@ fn show_making(rt: &HostRuntime, bytes: &[u8]) -> io::Result<()> {
     let mut table = CodeTable::from(CodePage::Page284);
     match table.make(bytes) {
         Ok(()) => print!(rt; "made")?,
-        Err(refusal) => {
-            let number = refusal.number();
-            let place = refusal.place();
-            print!(rt; "{number} {place:?}")?;
-        }
+        Err(refusal) => print!(rt; "{} {:?}", refusal.number(), refusal.place())?,
     }
-    let space = table.encode(b' ');
-    println!(rt; ", space {space:?}")
+    println!(rt; ", space {:?}", table.encode(b' '))
 }

@@ -4,7 +4,7 @@
 mod survey;
 
 use charset::{CodePage, CodeTable};
-use media::{Carrier, Ending, Framing, Image, Joined, Volume, copy};
+use media::{Carrier, Fault, Framing, Image, Joined, Volume, copy};
 use reading::{Refusal, Told};
 use std::fs;
 use survey::{Kinds, Stop, survey};
@@ -13,25 +13,24 @@ use survey::{Kinds, Stop, survey};
 const DISK: &str = "holding-1.disk";
 
 fn main(rt: HostRuntime) -> anyhow::Result<()> {
-    run(&rt)
-}
-
-fn run(rt: &HostRuntime) -> anyhow::Result<()> {
-    recall(rt, "holding-2.tape", "recalled.tape")?;
-    recall(rt, "damaged-2.tape", "damaged.tape")?;
-    recall(rt, "altered-2.tape", "altered.tape")
+    recall(&rt, "holding-2.tape", "recalled.tape")?;
+    recall(&rt, "damaged-2.tape", "damaged.tape")?;
+    recall(&rt, "altered-2.tape", "altered.tape")
 }
 
 fn recall(rt: &HostRuntime, tape: &str, image: &str) -> anyhow::Result<()> {
     let first = fs::read(rt, DISK)?;
     let second = fs::read(rt, tape)?;
     let mut holding = joined(&first, &second);
-    let volumes = holding.volumes();
-    println!(rt; "{DISK} and {tape}: {volumes} volumes")?;
-    let mut kinds = Kinds::none();
-    let stop = survey(&mut holding, &mut kinds);
-    tell_kinds(rt, &kinds)?;
-    tell_stop(rt, stop)?;
+    println!(rt; "{DISK} and {tape}: {} volumes", holding.volumes())?;
+    let mut kinds = Kinds::default();
+    let surveyed = survey(&mut holding, &mut kinds);
+    println!(rt; "{kinds}")?;
+    match surveyed {
+        Ok(()) => println!(rt; "they are a whole file")?,
+        Err(Stop::Refused(refusal)) => tell_refusal(rt, refusal)?,
+        Err(Stop::Broken(fault)) => tell_fault(rt, fault)?,
+    }
     let mut holding = joined(&first, &second);
     let mut bytes = vec![in rt.alloc(); 0; first.len().saturating_add(second.len())]?;
     let mut output = Image::new(
@@ -41,14 +40,13 @@ fn recall(rt: &HostRuntime, tape: &str, image: &str) -> anyhow::Result<()> {
     );
     match copy(&mut holding, &mut output) {
         Ok(copied) => {
-            let records = copied.records;
-            println!(rt; "{records} records copied to {image}")?;
-            tell_ending(rt, copied.ending)?;
+            println!(rt; "{} records copied to {image}", copied.records)?;
+            match copied.ending {
+                Ok(()) => println!(rt; "the holding ends clean")?,
+                Err(fault) => tell_fault(rt, fault)?,
+            }
         }
-        Err(refusal) => {
-            let number = refusal.number();
-            println!(rt; "the image is full: {number}")?;
-        }
+        Err(refusal) => println!(rt; "the image is full: {}", refusal.number())?,
     }
     let written = output.written();
     bytes.truncate(written);
@@ -65,27 +63,6 @@ fn joined<'a>(disk: &'a [u8], tape: &'a [u8]) -> Joined<Volume<'a>, Volume<'a>> 
     }
 }
 
-fn tell_kinds(rt: &HostRuntime, kinds: &Kinds) -> anyhow::Result<()> {
-    let accounts = kinds.accounts;
-    let movements = kinds.movements;
-    let texts = kinds.texts;
-    let equivalents = kinds.equivalents;
-    let ends = kinds.ends;
-    println!(rt;
-        "{accounts} accounts, {movements} movements, {texts} texts, {equivalents} equivalents, {ends} ends"
-    )?;
-    Ok(())
-}
-
-fn tell_stop(rt: &HostRuntime, stop: Stop) -> anyhow::Result<()> {
-    match stop {
-        Stop::Closed => println!(rt; "they are a whole file")?,
-        Stop::Refused(refusal) => tell_refusal(rt, refusal)?,
-        Stop::Broken(fault) => tell_ending(rt, Ending::Broken(fault))?,
-    }
-    Ok(())
-}
-
 fn tell_refusal(rt: &HostRuntime, refusal: Refusal) -> anyhow::Result<()> {
     let Told {
         number,
@@ -96,15 +73,10 @@ fn tell_refusal(rt: &HostRuntime, refusal: Refusal) -> anyhow::Result<()> {
     Ok(())
 }
 
-fn tell_ending(rt: &HostRuntime, ending: Ending) -> anyhow::Result<()> {
-    match ending {
-        Ending::Clean => println!(rt; "the holding ends clean")?,
-        Ending::Broken(fault) => {
-            let number = fault.number;
-            let place = fault.place;
-            let volume = fault.volume;
-            println!(rt; "fault {number} at byte {place} of volume {volume}")?;
-        }
-    }
+fn tell_fault(rt: &HostRuntime, fault: Fault) -> anyhow::Result<()> {
+    println!(rt;
+        "fault {} at byte {} of volume {}",
+        fault.number, fault.place, fault.volume
+    )?;
     Ok(())
 }

@@ -4,18 +4,40 @@ ghost use Rattle.records.specs.Checks.{judged};
 ghost use Rattle.records.specs.Rules.{same_account_checks, turnover_checks, final_checks, account_end_checks};
 ghost use Rattle.records.specs.Values.{key_at, number_at, account_number_in, account_end_in};
 
-use crate::columns::{ask, currency, digits, key, same_number, spaces};
+use crate::columns::{Columns, ask, currency, digits, mark, same_number, spaces};
 use crate::refusals::{FieldRefusal, Question};
 use values::{AccountEnd, AccountHead, Balance, OpenAccount, Turnover};
+
+const ENTITY: Columns = Columns { from: 3, to: 6 };
+
+const OFFICE: Columns = Columns { from: 7, to: 10 };
+
+const NUMBER: Columns = Columns { from: 11, to: 20 };
+
+const DEBITS: Columns = Columns { from: 21, to: 25 };
+
+const DEBIT_TOTAL: Columns = Columns { from: 26, to: 39 };
+
+const CREDITS: Columns = Columns { from: 40, to: 44 };
+
+const CREDIT_TOTAL: Columns = Columns { from: 45, to: 58 };
+
+const KEY: Columns = Columns { from: 59, to: 59 };
+
+const AMOUNT: Columns = Columns { from: 60, to: 73 };
+
+const CURRENCY: Columns = Columns { from: 74, to: 76 };
+
+const FREE: Columns = Columns { from: 77, to: 80 };
 
 // The account end names its account.
 fn same_account(offered: &[u8; 80], head: &AccountHead) -> Result<(), FieldRefusal>
     ensures refusal { result_err result ≡ judged (same_account_checks head.now) offered.now }
     ensures number { OnOk result (head.now.number ≡ account_number_in offered.now) }
 {
-    same_number(offered, 3, 6, u64::from(head.number.entity))?;
-    same_number(offered, 7, 10, u64::from(head.number.office))?;
-    same_number(offered, 11, 20, head.number.number)
+    same_number(offered, ENTITY, u64::from(head.number.entity))?;
+    same_number(offered, OFFICE, u64::from(head.number.office))?;
+    same_number(offered, NUMBER, head.number.number)
 }
 
 // It tells the movements of its account.
@@ -28,23 +50,24 @@ fn same_turnover(
     ensures debits { OnOk result (debits ≡ record { count = number_at 21 25 offered.now; total = number_at 26 39 offered.now }) }
     ensures credits { OnOk result (credits ≡ record { count = number_at 40 44 offered.now; total = number_at 45 58 offered.now }) }
 {
-    same_number(offered, 21, 25, u64::from(debits.count))?;
-    same_number(offered, 26, 39, debits.total)?;
-    same_number(offered, 40, 44, u64::from(credits.count))?;
-    same_number(offered, 45, 58, credits.total)
+    same_number(offered, DEBITS, u64::from(debits.count))?;
+    same_number(offered, DEBIT_TOTAL, debits.total)?;
+    same_number(offered, CREDITS, u64::from(credits.count))?;
+    same_number(offered, CREDIT_TOTAL, credits.total)
 }
 
 // The final balance is the one worked out; where it is zero either key is right.
+#[tactic(auto, using(crate::proofs::Marks::marks))]
 fn final_balance(offered: &[u8; 80], account: &OpenAccount) -> Result<Balance, FieldRefusal>
     ensures refusal { result_err result ≡ judged (final_checks account.now) offered.now }
     ensures balance { IfOk result (λ b. b ≡ record { key = key_at 59 offered.now; amount = number_at 60 73 offered.now }) }
 {
-    let key = key(offered, 59)?;
-    ask(Question::Agreement, 59, account.key_fits(key))?;
-    let amount = digits(offered, 60, 73)?;
+    let key = mark(offered, KEY)?;
+    ask(Question::Agreement, KEY, account.key_fits(key))?;
+    let amount = digits(offered, AMOUNT)?;
     ask(
         Question::Agreement,
-        60,
+        AMOUNT,
         u128::from(amount) == account.final_amount(),
     )?;
     Ok(Balance { key, amount })
@@ -61,9 +84,13 @@ pub fn read_account_end(
     same_account(offered, &account.head)?;
     same_turnover(offered, account.debits, account.credits)?;
     let last = final_balance(offered, account)?;
-    let currency = currency(offered, 74, 76)?;
-    ask(Question::Agreement, 74, currency == account.head.currency)?;
-    spaces(offered, 77, 80)?;
+    let currency = currency(offered, CURRENCY)?;
+    ask(
+        Question::Agreement,
+        CURRENCY,
+        currency == account.head.currency,
+    )?;
+    spaces(offered, FREE)?;
     Ok(AccountEnd {
         number: account.head.number,
         debits: account.debits,

@@ -4,17 +4,37 @@ ghost use Rattle.records.specs.Checks.{judged};
 ghost use Rattle.records.specs.Rules.{number_checks, period_checks, account_checks};
 ghost use Rattle.records.specs.Values.{account_number_in, period_in, account_in};
 
-use crate::columns::{ask, currency, date, digits, key, modality, short_digits, spaces};
+use crate::columns::{Columns, ask, currency, date, digits, mark, short_digits, spaces};
 use crate::refusals::{FieldRefusal, Question};
 use values::{AccountHead, AccountNumber, Balance, Period};
+
+const ENTITY: Columns = Columns { from: 3, to: 6 };
+
+const OFFICE: Columns = Columns { from: 7, to: 10 };
+
+const NUMBER: Columns = Columns { from: 11, to: 20 };
+
+const FIRST_DAY: Columns = Columns { from: 21, to: 26 };
+
+const LAST_DAY: Columns = Columns { from: 27, to: 32 };
+
+const KEY: Columns = Columns { from: 33, to: 33 };
+
+const AMOUNT: Columns = Columns { from: 34, to: 47 };
+
+const CURRENCY: Columns = Columns { from: 48, to: 50 };
+
+const MODALITY: Columns = Columns { from: 51, to: 51 };
+
+const FREE: Columns = Columns { from: 78, to: 80 };
 
 fn account_number(offered: &[u8; 80]) -> Result<AccountNumber, FieldRefusal>
     ensures refusal { result_err result ≡ judged number_checks offered.now }
     ensures number { IfOk result (λ n. n ≡ account_number_in offered.now) }
 {
-    let entity = short_digits(offered, 3, 6)?;
-    let office = short_digits(offered, 7, 10)?;
-    let number = digits(offered, 11, 20)?;
+    let entity = short_digits(offered, ENTITY)?;
+    let office = short_digits(offered, OFFICE)?;
+    let number = digits(offered, NUMBER)?;
     Ok(AccountNumber {
         entity,
         office,
@@ -26,13 +46,14 @@ fn period(offered: &[u8; 80]) -> Result<Period, FieldRefusal>
     ensures refusal { result_err result ≡ judged period_checks offered.now }
     ensures period { IfOk result (λ p. p ≡ period_in offered.now) }
 {
-    let first = date(offered, 21, 26)?;
-    let last = date(offered, 27, 32)?;
-    ask(Question::Agreement, 27, last.not_before(first))?;
+    let first = date(offered, FIRST_DAY)?;
+    let last = date(offered, LAST_DAY)?;
+    ask(Question::Agreement, LAST_DAY, last.not_before(first))?;
     Ok(Period { first, last })
 }
 
 /// Reads the numbers of an account record.
+#[tactic(auto, using(crate::proofs::Marks::marks))]
 pub fn read_account(offered: &[u8; 80]) -> Result<AccountHead, FieldRefusal>
     ensures refusal { result_err result ≡ judged account_checks offered.now }
     ensures head { IfOk result (λ h. h ≡ account_in offered.now) }
@@ -40,12 +61,12 @@ pub fn read_account(offered: &[u8; 80]) -> Result<AccountHead, FieldRefusal>
     let number = account_number(offered)?;
     let period = period(offered)?;
     let initial = Balance {
-        key: key(offered, 33)?,
-        amount: digits(offered, 34, 47)?,
+        key: mark(offered, KEY)?,
+        amount: digits(offered, AMOUNT)?,
     };
-    let currency = currency(offered, 48, 50)?;
-    let modality = modality(offered, 51)?;
-    spaces(offered, 78, 80)?;
+    let currency = currency(offered, CURRENCY)?;
+    let modality = mark(offered, MODALITY)?;
+    spaces(offered, FREE)?;
     Ok(AccountHead {
         number,
         period,

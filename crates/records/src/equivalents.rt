@@ -4,19 +4,27 @@ ghost use Rattle.records.specs.Checks.{judged};
 ghost use Rattle.records.specs.Rules.{equivalent_checks};
 ghost use Rattle.records.specs.Values.{equivalent_in};
 
-use crate::columns::{ask, currency, digits, spaces};
+use crate::columns::{Columns, ask, currency, digits, spaces};
 use crate::refusals::{FieldRefusal, Question};
 use values::{AccountHead, Equivalent};
+
+const SEQUENCE: Columns = Columns { from: 3, to: 4 };
+
+const CURRENCY: Columns = Columns { from: 5, to: 7 };
+
+const AMOUNT: Columns = Columns { from: 8, to: 21 };
+
+const FREE: Columns = Columns { from: 22, to: 80 };
 
 /// Reads an equivalent record of an account.
 pub fn read_equivalent(offered: &[u8; 80], head: &AccountHead) -> Result<Equivalent, FieldRefusal>
     ensures refusal { result_err result ≡ judged (equivalent_checks head.now) offered.now }
     ensures equivalent { IfOk result (λ e. e ≡ equivalent_in offered.now) }
 {
-    ask(Question::Value, 3, digits(offered, 3, 4)? == 1)?;
-    let currency = currency(offered, 5, 7)?;
-    ask(Question::Agreement, 5, currency != head.currency)?;
-    let amount = digits(offered, 8, 21)?;
-    spaces(offered, 22, 80)?;
+    ask(Question::Value, SEQUENCE, digits(offered, SEQUENCE)? == 1)?;
+    let currency = currency(offered, CURRENCY)?;
+    ask(Question::Agreement, CURRENCY, currency != head.currency)?;
+    let amount = digits(offered, AMOUNT)?;
+    spaces(offered, FREE)?;
     Ok(Equivalent { currency, amount })
 }

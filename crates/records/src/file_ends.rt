@@ -4,8 +4,14 @@ ghost use Rattle.records.specs.Checks.{judged};
 ghost use Rattle.records.specs.Rules.{file_end_checks};
 ghost use Rattle.records.specs.Values.{number_at};
 
-use crate::columns::{ask, digits, same_number, spaces};
+use crate::columns::{Columns, ask, digits, same_number, spaces};
 use crate::refusals::{FieldRefusal, Question};
+
+const FILLER: Columns = Columns { from: 3, to: 20 };
+
+const RECORDS: Columns = Columns { from: 21, to: 26 };
+
+const FREE: Columns = Columns { from: 27, to: 80 };
 
 /// What columns 3 to 20 of a file end hold.
 pub const NINES: [u8; 18] = *b"999999999999999999";
@@ -15,9 +21,9 @@ pub fn read_file_end(offered: &[u8; 80], before: u32) -> Result<u32, FieldRefusa
     ensures refusal { result_err result ≡ judged (file_end_checks before) offered.now }
     ensures number { IfOk result (λ n. (n ≡ before) × (n ≡ number_at 21 26 offered.now)) }
 {
-    digits(offered, 3, 20)?;
-    ask(Question::Value, 3, &offered[2..20] == NINES.as_slice())?;
-    same_number(offered, 21, 26, u64::from(before))?;
-    spaces(offered, 27, 80)?;
+    digits(offered, FILLER)?;
+    ask(Question::Value, FILLER, &offered[2..20] == NINES.as_slice())?;
+    same_number(offered, RECORDS, u64::from(before))?;
+    spaces(offered, FREE)?;
     Ok(before)
 }

@@ -4,10 +4,34 @@ ghost use Rattle.records.specs.Checks.{judged};
 ghost use Rattle.records.specs.Rules.{origin_checks, operation_checks, amount_checks, reference_checks, movement_checks};
 ghost use Rattle.records.specs.Values.{date_at, key_at, number_at, origin_in, reference_in, movement_in};
 
-use crate::columns::{ask, common_concept, date, digits, key, reference, short_digits, spaces};
+use crate::columns::{
+    Columns, ask, common_concept, date, digits, mark, reference, short_digits, spaces,
+};
 use crate::refusals::{FieldRefusal, Question};
 use fields::{Date, Modality};
 use values::{Balance, Movement, OpenAccount, Period};
+
+const FREE: Columns = Columns { from: 3, to: 6 };
+
+const ORIGIN: Columns = Columns { from: 7, to: 10 };
+
+const OPERATION: Columns = Columns { from: 11, to: 16 };
+
+const VALUE: Columns = Columns { from: 17, to: 22 };
+
+const COMMON: Columns = Columns { from: 23, to: 24 };
+
+const OWN: Columns = Columns { from: 25, to: 27 };
+
+const KEY: Columns = Columns { from: 28, to: 28 };
+
+const AMOUNT: Columns = Columns { from: 29, to: 42 };
+
+const DOCUMENT: Columns = Columns { from: 43, to: 52 };
+
+const REFERENCE: Columns = Columns { from: 53, to: 64 };
+
+const SECOND_REFERENCE: Columns = Columns { from: 65, to: 80 };
 
 // The office that a movement came from is told in modalities 2 and 3.
 fn origin(offered: &[u8; 80], modality: Modality) -> Result<Option<u32>, FieldRefusal>
@@ -16,10 +40,10 @@ fn origin(offered: &[u8; 80], modality: Modality) -> Result<Option<u32>, FieldRe
 {
     match modality {
         Modality::First => {
-            spaces(offered, 7, 10)?;
+            spaces(offered, ORIGIN)?;
             Ok(None)
         }
-        Modality::Second | Modality::Third => Ok(Some(short_digits(offered, 7, 10)?)),
+        Modality::Second | Modality::Third => Ok(Some(short_digits(offered, ORIGIN)?)),
     }
 }
 
@@ -28,24 +52,25 @@ fn operation_date(offered: &[u8; 80], period: Period) -> Result<Date, FieldRefus
     ensures refusal { result_err result ≡ judged (operation_checks period) offered.now }
     ensures day { IfOk result (λ d. d ≡ date_at 11 16 offered.now) }
 {
-    let day = date(offered, 11, 16)?;
+    let day = date(offered, OPERATION)?;
     ask(
         Question::Agreement,
-        11,
+        OPERATION,
         day.not_before(period.first) && period.last.not_before(day),
     )?;
     Ok(day)
 }
 
 // The key and the amount, which keep the account in its limits.
+#[tactic(auto, using(crate::proofs::Marks::marks))]
 fn key_and_amount(offered: &[u8; 80], account: &OpenAccount) -> Result<Balance, FieldRefusal>
     ensures refusal { result_err result ≡ judged (amount_checks account.now) offered.now }
     ensures turn { IfOk result (λ b. b ≡ record { key = key_at 28 offered.now; amount = number_at 29 42 offered.now }) }
 {
-    let key = key(offered, 28)?;
-    ask(Question::Limit, 28, account.counts_in_limit(key))?;
-    let amount = digits(offered, 29, 42)?;
-    ask(Question::Limit, 29, account.stays_in_limit(key, amount))?;
+    let key = mark(offered, KEY)?;
+    ask(Question::Limit, KEY, account.counts_in_limit(key))?;
+    let amount = digits(offered, AMOUNT)?;
+    ask(Question::Limit, AMOUNT, account.stays_in_limit(key, amount))?;
     Ok(Balance { key, amount })
 }
 
@@ -56,11 +81,11 @@ fn first_reference(offered: &[u8; 80], modality: Modality) -> Result<Option<u64>
 {
     match modality {
         Modality::First | Modality::Second => {
-            spaces(offered, 53, 64)?;
-            spaces(offered, 65, 80)?;
+            spaces(offered, REFERENCE)?;
+            spaces(offered, SECOND_REFERENCE)?;
             Ok(None)
         }
-        Modality::Third => Ok(Some(reference(offered, 53, 64)?)),
+        Modality::Third => Ok(Some(reference(offered, REFERENCE)?)),
     }
 }
 
@@ -69,14 +94,14 @@ pub fn read_movement(offered: &[u8; 80], account: &OpenAccount) -> Result<Moveme
     ensures refusal { result_err result ≡ judged (movement_checks account.now) offered.now }
     ensures movement { IfOk result (λ m. m ≡ movement_in account.now.head.modality offered.now) }
 {
-    spaces(offered, 3, 6)?;
+    spaces(offered, FREE)?;
     let origin = origin(offered, account.head.modality)?;
     let operation = operation_date(offered, account.head.period)?;
-    let value = date(offered, 17, 22)?;
-    let common = common_concept(offered, 23, 24)?;
-    let own = short_digits(offered, 25, 27)?;
+    let value = date(offered, VALUE)?;
+    let common = common_concept(offered, COMMON)?;
+    let own = short_digits(offered, OWN)?;
     let Balance { key, amount } = key_and_amount(offered, account)?;
-    let document = digits(offered, 43, 52)?;
+    let document = digits(offered, DOCUMENT)?;
     let reference = first_reference(offered, account.head.modality)?;
     Ok(Movement {
         origin,

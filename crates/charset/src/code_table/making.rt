@@ -11,8 +11,7 @@ impl CodeTable {
     {
         let mut decoding = [None; 256];
         let mut encoding = [None; 256];
-        for place in 0..CHARACTER_COUNT {
-            let byte = bytes[place];
+        for (place, &byte) in bytes.iter().enumerate() {
             let character = CHARACTERS[place];
             if decoding[byte as usize].is_some() {
                 return Err(CodeTableRefusal::Repeat(place));

@@ -11,12 +11,9 @@ use charset::CodeTable;
 fn encode_record(table: &CodeTable, offered: &[u8]) -> Option<[u8; RECORD_LENGTH]>
     ensures { Encodes table.now offered.now result }
 {
-    if offered.len() != RECORD_LENGTH {
-        return None;
-    }
-    let mut bytes = [0; RECORD_LENGTH];
-    for (i, character) in offered.iter().enumerate() {
-        bytes[i] = table.encode(*character)?;
+    let mut bytes = <[u8; RECORD_LENGTH]>::try_from(offered).ok()?;
+    for byte in &mut bytes {
+        *byte = table.encode(*byte)?;
     }
     Some(bytes)
 }
@@ -41,9 +38,7 @@ impl<'a> Image<'a> {
         ensures behind { Behind self.old self.new place part.now }
         ensures lent { self.new.bytes.ghost_name ≡ self.old.bytes.ghost_name }
     {
-        for (i, byte) in part.iter().enumerate() {
-            self.bytes[place + i] = *byte;
-        }
+        self.bytes[place..place + part.len()].copy_from_slice(part);
     }
 
     /// How many bytes are written.

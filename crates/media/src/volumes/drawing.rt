@@ -91,23 +91,25 @@ fn record_at(
     if !framing.is_line_end(&rest[RECORD_LENGTH..stride]) {
         return Err(VolumeFault::Frame(place + RECORD_LENGTH));
     }
-    match decode_record(table, &rest[0..RECORD_LENGTH]) {
-        Ok(characters) => Ok(Some(characters)),
-        Err(i) => Err(VolumeFault::Character(place + i)),
-    }
+    Ok(Some(decode_record(table, &rest[0..RECORD_LENGTH], place)?))
 }
 
-// The characters that 80 bytes read as, or the index of the first that reads as none.
-fn decode_record(table: &CodeTable, text: &[u8]) -> Result<[u8; RECORD_LENGTH], usize>
-    requires { length text.now ≡ 80 }
-    ensures { Decodes table.now text.now result }
+// The characters that 80 bytes read as; `place` is the byte place of the first.
+fn decode_record(
+    table: &CodeTable,
+    text: &[u8],
+    place: usize,
+) -> Result<[u8; RECORD_LENGTH], VolumeFault>
+    requires long { length text.now ≡ 80 }
+    requires fits { place + 80 < 2 ^ 64 }
+    ensures { Decodes table.now text.now place result }
 {
     let mut characters = [b' '; RECORD_LENGTH];
-    for (i, byte) in text.iter().enumerate() {
-        match table.decode(*byte) {
-            Some(character) => characters[i] = character,
-            None => return Err(i),
-        }
+    characters.copy_from_slice(text);
+    for (i, character) in characters.iter_mut().enumerate() {
+        *character = table
+            .decode(*character)
+            .ok_or(VolumeFault::Character(place + i))?;
     }
     Ok(characters)
 }

@@ -2,7 +2,7 @@ use Rattle.std.proofs.Common.{◌≡◌, ◌<◌, length, get_or, sym, refl, ap,
 use Rattle.charset.specs.Tables.{repeated}
 use Rattle.charset.specs.Characters.{characters}
 use Rattle.charset.proofs.code_table.CodeTable.of_bytes.Goals as goal
-use Rattle.charset.proofs.Filling.{none, more, came_before, all}
+use Rattle.charset.proofs.Filling.{none, more, came_before}
 
 pub returns-then-is_some : goal.returns-then-is_some
 returns-then-is_some c =
@@ -19,9 +19,3 @@ loop-place-preserved c =
     let small : get_or c.args.bytes c.loop-place.place 0 < 256 = search rules in
     let small' : get_or characters c.loop-place.place 0 < 256 = search rules in
     more c.args.bytes characters c.loop-place.decoding c.loop-place.encoding c.loop-place.place long (omega arith) c.loop-place.invariant small small' (sym c.if-is_some.ensures) refl
-
-pub invariant_of-result : goal.invariant_of-result
-invariant_of-result c =
-    let long : length c.args.bytes ≡ 57 = search rules in
-    let done = all c.args.bytes characters c.loop-place.decoding c.loop-place.encoding c.loop-place.place (omega arith) (omega arith) c.loop-place.invariant in
-    record { complete = long; apart = done.0; reads = done.1; writes = done.2 }

@@ -3,4 +3,4 @@ use Rattle.charset.proofs.Filling.{Filled}
 use Rattle.charset.proofs.code_table.CodeTable.of_bytes.Given as goal
 
 abbrev pub invariant-loop-place : goal.invariant-loop-place
-invariant-loop-place l = Filled l.bytes characters l.decoding l.encoding l.place
+invariant-loop-place l = Filled l.fn.bytes characters l.decoding l.encoding l.place

@@ -1,17 +1,16 @@
 use Rattle.std.proofs.Common.{sym}
-use Rattle.media.proofs.Translating.{none, more, stop, all}
+use Rattle.media.proofs.Translating.{more, stop, all}
 use Rattle.media.proofs.Writing.{encodes, encodes_not}
 use Rattle.media.proofs.images.putting.encode_record.Goals as goal
 
-pub loop-i-init : goal.loop-i-init
-loop-i-init c = none _ _ _ (sym c.if-offered-ne-RECORD_LENGTH.false)
+pub returns-in_err-byte : goal.returns-in_err-byte
+returns-in_err-byte c =
+    rw c.from_residual-in_err-byte.ensures (encodes_not c.args.table.now c.args.offered.now c.loop-byte.byte-index (stop _ _ _ _ c.loop-byte-test.true c.loop-byte.invariant (sym c.in_err-byte.ensures.value)))
 
-pub loop-i-preserved : goal.loop-i-preserved
-loop-i-preserved c = more _ _ _ _ c.loop-i-test.true c.loop-i.invariant c.in_ok-bytes.field-0 (sym c.in_ok-bytes.ensures.value)
-
-pub returns-in_err-bytes : goal.returns-in_err-bytes
-returns-in_err-bytes c =
-    rw c.from_residual.ensures (encodes_not c.args.table.now c.args.offered.now c.loop-i.i (stop _ _ _ _ c.loop-i-test.true c.loop-i.invariant (sym c.in_err-bytes.ensures.value)))
+pub loop-byte-preserved : goal.loop-byte-preserved
+loop-byte-preserved c = more _ _ _ _ c.loop-byte-test.true c.loop-byte.invariant c.in_ok-byte.field-0 (sym c.in_ok-byte.ensures.value)
 
 pub returns : goal.returns
-returns c = let d = all _ _ _ _ c.loop-i-test.false c.loop-i.invariant in (encodes c.args.table.now c.args.offered.now c.if-offered-ne-RECORD_LENGTH.false d.0, d.1)
+returns c =
+    let d = all _ _ _ _ c.loop-byte-test.false c.loop-byte.invariant in
+    (encodes c.args.table.now c.args.offered.now c.loop-byte.invariant.whole d.0, d.1)

@@ -1,15 +1,11 @@
-use Rattle.std.proofs.Common.{sym}
-use Rattle.media.proofs.Translating.{none, more, stop, all}
+use Rattle.std.proofs.Common.{◌≡◌, ℕ, Option, Some, None, Ok, sym, ◌∙◌}
+use Rattle.std.specs.Option.{ok_or}
+use Rattle.media.proofs.Translating.{more}
 use Rattle.media.proofs.volumes.drawing.decode_record.Goals as goal
 
-pub loop-i-init : goal.loop-i-init
-loop-i-init c = none _ _ _ (sym c.requires)
+is_some_from : {E : Type 0} (o : Option ℕ) (e : E) (x : ℕ) → ok_or o e ≡ Ok x → o ≡ Some x
+is_some_from None e x h = cc
+is_some_from (Some y) e x h = cc
 
 pub loop-i-preserved : goal.loop-i-preserved
-loop-i-preserved c = more _ _ _ _ c.loop-i-test.true c.loop-i.invariant c.in-Some.character (sym c.in-Some.ensures.value)
-
-pub returns-in-None : goal.returns-in-None
-returns-in-None c = stop _ _ _ _ c.loop-i-test.true c.loop-i.invariant (sym c.in-None.ensures.value)
-
-pub returns : goal.returns
-returns c = all _ _ _ _ c.loop-i-test.false c.loop-i.invariant
+loop-i-preserved c = more _ _ _ _ c.loop-i-test.true c.loop-i.invariant c.in_ok-character.field-0 (sym c.decode.ensures.value ∙ is_some_from c.decode.result _ _ (sym c.ok_or.ensures.value ∙ c.in_ok-character.was))
