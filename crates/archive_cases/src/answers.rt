@@ -1,74 +1,92 @@
+use crate::rooms::{Room, SAMPLE};
 use archiving::{Counts, ReadRefusal, read};
 use media::Carrier;
-use rows::accounts::UNUSED_ACCOUNT;
-use rows::movements::UNUSED_MOVEMENT;
-use rows::texts::UNUSED_TEXT;
-use rows::{AccountRow, MovementRow, Notice, TextRow};
-use table::Table;
+use rows::{Notice, Tables};
+use std::fmt;
 
 /// What a read answers.
-pub fn tell_read(rt: &HostRuntime, answer: Result<Counts, ReadRefusal>) -> anyhow::Result<()> {
-    match answer {
-        Ok(counts) => {
-            let accounts = counts.accounts;
-            let movements = counts.movements;
-            let texts = counts.texts;
-            print!(rt; "read {accounts} {movements} {texts}")?;
-        }
-        Err(refusal) => {
-            let notice = refusal.notice();
-            let volume = notice.volume;
-            tell_notice(rt, notice)?;
-            print!(rt; " volume {volume}")?;
+#[derive(Clone, Copy)]
+pub struct ReadAnswer(pub Result<Counts, ReadRefusal>);
+
+impl fmt::Display for ReadAnswer {
+    fn fmt<W: fmt::Write>(&self, f: &mut fmt::Formatter<W>) -> fmt::Result {
+        match self.0 {
+            Ok(counts) => {
+                let (accounts, movements, texts) = (
+                    counts.accounts,
+                    counts.movements,
+                    counts.texts,
+                );
+                write!(f, "read {accounts} {movements} {texts}")
+            }
+            Err(refusal) => {
+                let notice = Notice::from(refusal);
+                write!(f, "{} volume {}", Numbers(notice), notice.volume)
+            }
         }
     }
-    Ok(())
 }
 
 /// How many records there are, or what a refusal tells.
-pub fn tell_records(rt: &HostRuntime, answer: Result<u32, Notice>) -> anyhow::Result<()> {
-    match answer {
-        Ok(records) => print!(rt; "{records} records")?,
-        Err(notice) => tell_notice(rt, notice)?,
+#[derive(Clone, Copy)]
+pub struct Records(pub Result<u32, Notice>);
+
+impl fmt::Display for Records {
+    fn fmt<W: fmt::Write>(&self, f: &mut fmt::Formatter<W>) -> fmt::Result {
+        match self.0 {
+            Ok(records) => write!(f, "{records} records"),
+            Err(notice) => write!(f, "{}", Numbers(notice)),
+        }
     }
-    Ok(())
 }
 
-fn tell_notice(rt: &HostRuntime, notice: Notice) -> anyhow::Result<()> {
-    let layer = notice.layer.number();
-    let number = notice.number;
-    let record = notice.record;
-    let place = notice.place;
-    print!(rt; "layer {layer} number {number} record {record} place {place}")?;
-    Ok(())
+#[derive(Clone, Copy)]
+struct Numbers(Notice);
+
+impl fmt::Display for Numbers {
+    fn fmt<W: fmt::Write>(&self, f: &mut fmt::Formatter<W>) -> fmt::Result {
+        let Notice {
+            layer,
+            number,
+            record,
+            place,
+            ..
+        } = self.0;
+        let layer = layer.number();
+        write!(
+            f,
+            "layer {layer} number {number} record {record} place {place}"
+        )
+    }
 }
 
 /// Reads a carrier into tables, and tells the answer and how many rows are filled.
 pub fn show_read<C: Carrier>(
     rt: &HostRuntime,
     carrier: &mut C,
-    accounts: &mut Table<'_, AccountRow>,
-    movements: &mut Table<'_, MovementRow>,
-    texts: &mut Table<'_, TextRow>,
+    tables: &mut Tables<'_>,
 ) -> anyhow::Result<()> {
-    let answer = read(carrier, accounts, movements, texts);
-    tell_read(rt, answer)?;
-    let accounts = accounts.len();
-    let movements = movements.len();
-    let texts = texts.len();
-    print!(rt; "; filled {accounts} {movements} {texts}")?;
+    let answer = ReadAnswer(read(carrier, tables));
+    let accounts = tables.accounts.len();
+    let movements = tables.movements.len();
+    let texts = tables.texts.len();
+    print!(rt; "{answer}; filled {accounts} {movements} {texts}")?;
     Ok(())
 }
 
 /// The same with new tables, which have just the rows that the sample needs.
 pub fn show_carrier<C: Carrier>(rt: &HostRuntime, carrier: &mut C) -> anyhow::Result<()> {
-    let mut accounts = [UNUSED_ACCOUNT; 2];
-    let mut movements = [UNUSED_MOVEMENT; 3];
-    let mut texts = [UNUSED_TEXT; 2];
-    let mut accounts = Table::new(&mut accounts);
-    let mut movements = Table::new(&mut movements);
-    let mut texts = Table::new(&mut texts);
-    show_read(rt, carrier, &mut accounts, &mut movements, &mut texts)?;
+    let mut room = Room::new(rt.alloc(), SAMPLE)?;
+    show_read(rt, carrier, &mut room.tables())?;
     println!(rt; "")?;
     Ok(())
+}
+
+/// How bytes compare with a file.
+pub fn compared(bytes: &[u8], file: &[u8]) -> &'static str {
+    if bytes == file {
+        "the file"
+    } else {
+        "not the file"
+    }
 }

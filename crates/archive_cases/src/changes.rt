@@ -1,14 +1,7 @@
-use crate::sample::blocks;
-use archiving::read;
-use charset::{CodePage, CodeTable};
+use crate::rooms::Room;
 use fields::{Date, Key, Modality};
-use media::{Framing, Volume};
-use rows::accounts::UNUSED_ACCOUNT;
-use rows::movements::UNUSED_MOVEMENT;
-use rows::texts::UNUSED_TEXT;
-use rows::{AccountRow, MovementRow, Statement, TextRow};
-use std::alloc::{AllocError, Global};
-use table::Table;
+use rows::{AccountRow, MovementRow, TextRow};
+use std::alloc::AllocError;
 use values::Equivalent;
 
 /// Another value in the row of an account.
@@ -58,43 +51,9 @@ pub enum Change {
     Lent(usize, usize, usize),
 }
 
-/// The rows of the sample, with some more behind them, and how many of each are lent.
-#[derive(Clone, Copy)]
-pub struct Rows {
-    accounts: [AccountRow; 2],
-    movements: [MovementRow; 4],
-    texts: [TextRow; 6],
-    lent: (usize, usize, usize),
-}
-
-impl Rows {
-    /// The rows of the sample.
-    pub fn sample(heap: Global) -> Result<Rows, AllocError> {
-        let file = blocks(heap)?;
-        let mut accounts = [UNUSED_ACCOUNT; 2];
-        let mut movements = [UNUSED_MOVEMENT; 4];
-        let mut texts = [UNUSED_TEXT; 6];
-        fill(&file, &mut accounts, &mut movements, &mut texts);
-        Ok(Rows {
-            accounts,
-            movements,
-            texts,
-            lent: (2, 3, 2),
-        })
-    }
-
-    /// The rows that are lent.
-    pub fn statement(&self) -> Statement<'_> {
-        let (accounts, movements, texts) = self.lent;
-        Statement {
-            accounts: &self.accounts[0..accounts.min(2)],
-            movements: &self.movements[0..movements.min(4)],
-            texts: &self.texts[0..texts.min(6)],
-        }
-    }
-
+impl Room {
     /// Makes a change.
-    pub fn change(&mut self, change: Change) {
+    pub fn change(&mut self, change: Change) -> Result<(), AllocError> {
         match change {
             Change::Account(index, change) => {
                 if let Some(row) = self.accounts.get_mut(index) {
@@ -106,23 +65,17 @@ impl Rows {
                     change_movement(row, change);
                 }
             }
-            Change::Text(place, byte) => change_text(&mut self.texts[0], place, byte),
-            Change::Lent(accounts, movements, texts) => self.lent = (accounts, movements, texts),
+            Change::Text(place, byte) => {
+                if let Some(row) = self.texts.first_mut() {
+                    change_text(row, place, byte);
+                }
+            }
+            Change::Lent(accounts, movements, texts) => {
+                self.resize([accounts, movements, texts])?;
+            }
         }
+        Ok(())
     }
-}
-
-fn fill(
-    file: &[u8],
-    accounts: &mut [AccountRow],
-    movements: &mut [MovementRow],
-    texts: &mut [TextRow],
-) {
-    let mut accounts = Table::new(accounts);
-    let mut movements = Table::new(movements);
-    let mut texts = Table::new(texts);
-    let mut volume = Volume::new(file, Framing::Blocks, CodeTable::from(CodePage::Page850));
-    let _ = read(&mut volume, &mut accounts, &mut movements, &mut texts);
 }
 
 fn change_account(row: &mut AccountRow, change: InAccount) {
@@ -171,7 +124,7 @@ fn change_text(row: &mut TextRow, place: usize, byte: u8) {
 }
 
 fn put(bytes: &mut [u8], place: usize, byte: u8) {
-    if place < bytes.len() {
-        bytes[place] = byte;
+    if let Some(changed) = bytes.get_mut(place) {
+        *changed = byte;
     }
 }

@@ -1,4 +1,5 @@
-use crate::answers::tell_records;
+use crate::answers::Records;
+use crate::changes::Change;
 use crate::changes::Change::{Account, Lent, Movement, Text};
 use crate::changes::InAccount::{
     Currency, Entity, FinalKey, First, Initial, InitialKey, Last, Mode, Movements, Name, Number,
@@ -8,7 +9,7 @@ use crate::changes::InMovement::{
     Amount, Common, Converted, Document, Operation, Origin, Own, Reference, Second, Side, Texts,
     Value,
 };
-use crate::changes::{Change, Rows};
+use crate::rooms::Room;
 use fields::{Key, Modality};
 use recalling::check_tables;
 use rows::Notice;
@@ -190,7 +191,7 @@ const LIMITS: [&[Change]; 4] = [
 ];
 
 pub fn show(rt: &HostRuntime) -> anyhow::Result<()> {
-    let sample = Rows::sample(rt.alloc())?;
+    let sample = Room::sample(rt.alloc())?;
     show_cases(rt, &sample, "rows and counts", &COUNTS)?;
     show_cases(rt, &sample, "numbers too wide", &WIDE)?;
     show_cases(rt, &sample, "statements still", &FIT)?;
@@ -204,20 +205,18 @@ pub fn show(rt: &HostRuntime) -> anyhow::Result<()> {
 // Makes the changes of each case in the sample's rows, and checks them.
 fn show_cases(
     rt: &HostRuntime,
-    sample: &Rows,
+    sample: &Room,
     title: &str,
     cases: &[&[Change]],
 ) -> anyhow::Result<()> {
     println!(rt; "{title}")?;
     for case in cases {
-        let mut rows = *sample;
+        let mut room = sample.clone()?;
         for change in *case {
-            rows.change(*change);
+            room.change(*change)?;
         }
-        print!(rt; "{case:?}: ")?;
-        let answer = check_tables(&rows.statement()).map_err(Notice::from);
-        tell_records(rt, answer)?;
-        println!(rt; "")?;
+        let answer = check_tables(&room.statement()).map_err(Notice::from);
+        println!(rt; "{case:?}: {}", Records(answer))?;
     }
     Ok(())
 }

@@ -1,14 +1,13 @@
-use crate::answers::{tell_read, tell_records};
+use crate::answers::{ReadAnswer, Records, compared};
+use crate::sample::{image, volume};
 use archiving::read;
-use charset::{CodePage, CodeTable};
-use media::{Framing, Image, Volume};
+use media::Framing;
 use recalling::{check_tables, write};
 use rows::accounts::UNUSED_ACCOUNT;
 use rows::movements::UNUSED_MOVEMENT;
 use rows::texts::UNUSED_TEXT;
-use rows::{AccountRow, MovementRow, Notice, Statement, TextRow};
+use rows::{AccountRow, MovementRow, Notice, Statement, Tables, TextRow};
 use std::alloc::{AllocError, Global};
-use table::Table;
 
 const HEAD: &[u8] =
     b"119999000100000000012603012603312000000000000009781PRUEBA                       ";
@@ -43,7 +42,15 @@ pub fn show(rt: &HostRuntime) -> anyhow::Result<()> {
     let mut accounts = [UNUSED_ACCOUNT; 6];
     let mut movements = vec![in rt.alloc(); UNUSED_MOVEMENT; MOVEMENTS]?;
     let mut texts = [UNUSED_TEXT; 2];
-    show_reads(rt, &file, &mut accounts, &mut movements, &mut texts)?;
+    print!(rt; "a row too few: ")?;
+    let few = &mut movements[0..MOVEMENTS - 1];
+    show_read(rt, &file, &mut Tables::new(&mut accounts, few, &mut texts))?;
+    print!(rt; "enough rows: ")?;
+    show_read(
+        rt,
+        &file,
+        &mut Tables::new(&mut accounts, &mut movements, &mut texts),
+    )?;
     let statement = Statement {
         accounts: &accounts[0..5],
         movements: &movements,
@@ -79,60 +86,25 @@ fn add(file: &mut Vec<u8>, record: &[u8], times: u32) -> Result<(), AllocError> 
     Ok(())
 }
 
-// With one row too few for its last movement, and with enough.
-fn show_reads(
-    rt: &HostRuntime,
-    file: &[u8],
-    accounts: &mut [AccountRow],
-    movements: &mut [MovementRow],
-    texts: &mut [TextRow],
-) -> anyhow::Result<()> {
-    let few = movements.len().saturating_sub(1);
-    print!(rt; "a row too few: ")?;
-    show_read(rt, file, accounts, &mut movements[0..few], texts)?;
-    print!(rt; "enough rows: ")?;
-    show_read(rt, file, accounts, movements, texts)
-}
-
-fn show_read(
-    rt: &HostRuntime,
-    file: &[u8],
-    accounts: &mut [AccountRow],
-    movements: &mut [MovementRow],
-    texts: &mut [TextRow],
-) -> anyhow::Result<()> {
-    let mut accounts = Table::new(accounts);
-    let mut movements = Table::new(movements);
-    let mut texts = Table::new(texts);
-    let mut volume = Volume::new(file, Framing::Blocks, CodeTable::from(CodePage::Page850));
-    let answer = read(&mut volume, &mut accounts, &mut movements, &mut texts);
-    tell_read(rt, answer)?;
-    println!(rt; "")?;
+fn show_read(rt: &HostRuntime, file: &[u8], tables: &mut Tables<'_>) -> anyhow::Result<()> {
+    let answer = read(&mut volume(file, Framing::Blocks), tables);
+    println!(rt; "{}", ReadAnswer(answer))?;
     Ok(())
 }
 
-// To an image with one place too few, and to one with enough.
 fn show_writes(rt: &HostRuntime, file: &[u8], statement: &Statement) -> anyhow::Result<()> {
     let mut bytes = vec![in rt.alloc(); 0; LENGTH]?;
-    let few = bytes.len().saturating_sub(1);
     print!(rt; "a place too few: ")?;
-    show_write(rt, statement, &mut bytes[0..few])?;
+    show_write(rt, statement, &mut bytes[0..LENGTH - 1])?;
     print!(rt; "enough places: ")?;
     show_write(rt, statement, &mut bytes)?;
-    let same = if bytes.as_slice() == file {
-        "the file"
-    } else {
-        "not the file"
-    };
-    println!(rt; "they are {same}")?;
+    println!(rt; "they are {}", compared(&bytes, file))?;
     Ok(())
 }
 
 fn show_write(rt: &HostRuntime, statement: &Statement, bytes: &mut [u8]) -> anyhow::Result<()> {
-    let mut image = Image::new(bytes, Framing::Blocks, CodeTable::from(CodePage::Page850));
-    let answer = write(statement, &mut image).map_err(Notice::from);
-    tell_records(rt, answer)?;
-    println!(rt; "")?;
+    let answer = write(statement, &mut image(bytes, Framing::Blocks));
+    println!(rt; "{}", Records(answer.map_err(Notice::from)))?;
     Ok(())
 }
 
@@ -190,7 +162,6 @@ fn show_check<'a>(
         texts,
     };
     let answer = check_tables(&statement).map_err(Notice::from);
-    tell_records(rt, answer)?;
-    println!(rt; "")?;
+    println!(rt; "{}", Records(answer))?;
     Ok(())
 }

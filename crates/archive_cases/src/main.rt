@@ -8,16 +8,13 @@ mod checks;
 mod longest;
 mod outputs;
 mod reads;
+mod rooms;
 mod sample;
 
 fn main(rt: HostRuntime) -> anyhow::Result<()> {
-    run(&rt)
-}
-
-fn run(rt: &HostRuntime) -> anyhow::Result<()> {
-    reads::show(rt)?;
-    carriers::show(rt)?;
-    outputs::show(rt)?;
-    checks::show(rt)?;
-    longest::show(rt)
+    reads::show(&rt)?;
+    carriers::show(&rt)?;
+    outputs::show(&rt)?;
+    checks::show(&rt)?;
+    longest::show(&rt)
 }

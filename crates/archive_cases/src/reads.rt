@@ -1,15 +1,11 @@
 use crate::answers::{show_carrier, show_read};
-use crate::sample::blocks;
-use charset::{CodePage, CodeTable};
-use media::{Framing, Volume};
-use rows::accounts::UNUSED_ACCOUNT;
-use rows::movements::UNUSED_MOVEMENT;
-use rows::texts::UNUSED_TEXT;
-use rows::{AccountRow, MovementRow, TextRow};
-use table::Table;
+use crate::rooms::{Room, Size};
+use crate::sample::{file, volume};
+use media::Framing;
+use std::alloc::{AllocError, Global};
 
 // The rows lent: accounts, movements and texts. The sample needs 2, 3 and 2.
-const ROOMS: [[usize; 3]; 9] = [
+const ROOMS: [Size; 9] = [
     [2, 3, 2],
     [1, 3, 2],
     [2, 2, 2],
@@ -38,12 +34,12 @@ const AGAIN: [(usize, u8); 5] = [
 const MARK: u32 = 77_777;
 
 pub fn show(rt: &HostRuntime) -> anyhow::Result<()> {
-    let file = blocks(rt.alloc())?;
+    let file = file(rt.alloc(), Framing::Blocks)?;
     println!(rt;
         "rows lent: answer; rows filled, counts of the last account and movement, rows untouched"
     )?;
-    for room in &ROOMS {
-        show_room(rt, &file, *room)?;
+    for size in ROOMS {
+        show_room(rt, &file, size)?;
     }
     println!(rt; "records on the carrier")?;
     show_cuts(rt, &file)?;
@@ -56,82 +52,45 @@ pub fn show(rt: &HostRuntime) -> anyhow::Result<()> {
 }
 
 // Reads the sample over rows that are marked, and tells which still have their mark.
-fn show_room(rt: &HostRuntime, file: &[u8], room: [usize; 3]) -> anyhow::Result<()> {
-    let heap = rt.alloc();
-    let [a, m, t] = room;
+fn show_room(rt: &HostRuntime, file: &[u8], size: Size) -> anyhow::Result<()> {
+    let [a, m, t] = size;
     print!(rt; "{a} {m} {t}: ")?;
-    let mut accounts = vec![in heap; AccountRow {
-        movements: MARK,
-        ..UNUSED_ACCOUNT
-    }; a]?;
-    let mut movements = vec![in heap; MovementRow {
-        texts: MARK,
-        ..UNUSED_MOVEMENT
-    }; m]?;
-    let mut texts = vec![in heap; TextRow {
-        first: [0; 38],
-        ..UNUSED_TEXT
-    }; t]?;
-    show_filling(rt, file, &mut accounts, &mut movements, &mut texts)?;
-    let accounts = untouched_accounts(&accounts);
-    let movements = untouched_movements(&movements);
-    let texts = untouched_texts(&texts);
-    println!(rt; ", untouched {accounts} {movements} {texts}")?;
+    let mut room = marked(rt.alloc(), size)?;
+    show_filling(rt, file, &mut room)?;
+    let accounts = room.accounts.iter().filter(|row| row.movements == MARK);
+    let movements = room.movements.iter().filter(|row| row.texts == MARK);
+    let texts = room.texts.iter().filter(|row| row.first[0] == 0);
+    println!(rt;
+        ", untouched {} {} {}",
+        accounts.count(),
+        movements.count(),
+        texts.count()
+    )?;
     Ok(())
 }
 
-fn show_filling(
-    rt: &HostRuntime,
-    file: &[u8],
-    accounts: &mut [AccountRow],
-    movements: &mut [MovementRow],
-    texts: &mut [TextRow],
-) -> anyhow::Result<()> {
-    let mut accounts = Table::new(accounts);
-    let mut movements = Table::new(movements);
-    let mut texts = Table::new(texts);
-    let mut volume = Volume::new(file, Framing::Blocks, CodeTable::from(CodePage::Page850));
-    show_read(rt, &mut volume, &mut accounts, &mut movements, &mut texts)?;
-    let counted = match accounts.last() {
-        Some((_, row)) => row.movements,
-        None => 0,
-    };
-    let texted = match movements.last() {
-        Some((_, row)) => row.texts,
-        None => 0,
-    };
+// So many rows, each with its mark.
+fn marked(heap: Global, size: Size) -> Result<Room, AllocError> {
+    let mut room = Room::new(heap, size)?;
+    for row in &mut room.accounts {
+        row.movements = MARK;
+    }
+    for row in &mut room.movements {
+        row.texts = MARK;
+    }
+    for row in &mut room.texts {
+        row.first = [0; 38];
+    }
+    Ok(room)
+}
+
+fn show_filling(rt: &HostRuntime, file: &[u8], room: &mut Room) -> anyhow::Result<()> {
+    let mut tables = room.tables();
+    show_read(rt, &mut volume(file, Framing::Blocks), &mut tables)?;
+    let counted = tables.accounts.last().map_or(0, |(_, row)| row.movements);
+    let texted = tables.movements.last().map_or(0, |(_, row)| row.texts);
     print!(rt; ", counted {counted} {texted}")?;
     Ok(())
-}
-
-fn untouched_accounts(rows: &[AccountRow]) -> usize {
-    let mut count: usize = 0;
-    for row in rows {
-        if row.movements == MARK {
-            count = count.saturating_add(1);
-        }
-    }
-    count
-}
-
-fn untouched_movements(rows: &[MovementRow]) -> usize {
-    let mut count: usize = 0;
-    for row in rows {
-        if row.texts == MARK {
-            count = count.saturating_add(1);
-        }
-    }
-    count
-}
-
-fn untouched_texts(rows: &[TextRow]) -> usize {
-    let mut count: usize = 0;
-    for row in rows {
-        if row.first[0] == 0 {
-            count = count.saturating_add(1);
-        }
-    }
-    count
 }
 
 // Ends early, just at its end, and too late.
@@ -142,30 +101,22 @@ fn show_cuts(rt: &HostRuntime, file: &[u8]) -> anyhow::Result<()> {
     for records in CUTS {
         print!(rt; "{records}: ")?;
         let (front, _) = twice.split_at(twice.len().min(records.saturating_mul(80)));
-        show_carrier(
-            rt,
-            &mut Volume::new(front, Framing::Blocks, CodeTable::from(CodePage::Page850)),
-        )?;
+        show_carrier(rt, &mut volume(front, Framing::Blocks))?;
     }
     Ok(())
 }
 
 // Reads files of other lengths and bytes into the same tables.
 fn show_again(rt: &HostRuntime) -> anyhow::Result<()> {
-    let mut accounts = [UNUSED_ACCOUNT; 4];
-    let mut movements = [UNUSED_MOVEMENT; 4];
-    let mut texts = [UNUSED_TEXT; 4];
-    let mut accounts = Table::new(&mut accounts);
-    let mut movements = Table::new(&mut movements);
-    let mut texts = Table::new(&mut texts);
+    let mut room = Room::new(rt.alloc(), [4, 4, 4])?;
+    let mut tables = room.tables();
     for (length, byte) in AGAIN {
-        let mut bytes = blocks(rt.alloc())?;
+        let mut bytes = file(rt.alloc(), Framing::Blocks)?;
         if let Some(changed) = bytes.get_mut(405) {
             *changed = byte;
         }
         bytes.truncate(length);
-        let mut volume = Volume::new(&bytes, Framing::Blocks, CodeTable::from(CodePage::Page850));
-        show_read(rt, &mut volume, &mut accounts, &mut movements, &mut texts)?;
+        show_read(rt, &mut volume(&bytes, Framing::Blocks), &mut tables)?;
         println!(rt; "")?;
     }
     Ok(())
@@ -173,15 +124,11 @@ fn show_again(rt: &HostRuntime) -> anyhow::Result<()> {
 
 // The second account finds no row; the next reads go on behind it.
 fn show_rest(rt: &HostRuntime, file: &[u8]) -> anyhow::Result<()> {
-    let mut accounts = [UNUSED_ACCOUNT; 1];
-    let mut movements = [UNUSED_MOVEMENT; 3];
-    let mut texts = [UNUSED_TEXT; 2];
-    let mut accounts = Table::new(&mut accounts);
-    let mut movements = Table::new(&mut movements);
-    let mut texts = Table::new(&mut texts);
-    let mut volume = Volume::new(file, Framing::Blocks, CodeTable::from(CodePage::Page850));
+    let mut room = Room::new(rt.alloc(), [1, 3, 2])?;
+    let mut tables = room.tables();
+    let mut volume = volume(file, Framing::Blocks);
     for _ in 0..5 {
-        show_read(rt, &mut volume, &mut accounts, &mut movements, &mut texts)?;
+        show_read(rt, &mut volume, &mut tables)?;
         println!(rt; "")?;
     }
     Ok(())
@@ -190,7 +137,7 @@ fn show_rest(rt: &HostRuntime, file: &[u8]) -> anyhow::Result<()> {
 // The last record is cut off by one byte: the fault is told each time.
 fn show_broken(rt: &HostRuntime, file: &[u8]) -> anyhow::Result<()> {
     let (front, _) = file.split_at(file.len().saturating_sub(1));
-    let mut volume = Volume::new(front, Framing::Blocks, CodeTable::from(CodePage::Page850));
+    let mut volume = volume(front, Framing::Blocks);
     show_carrier(rt, &mut volume)?;
     show_carrier(rt, &mut volume)
 }

@@ -1,3 +1,5 @@
+use charset::{CodePage, CodeTable};
+use media::{Framing, Image, Volume};
 use std::alloc::{AllocError, Global};
 
 /// The records of a small file. Its first account, of modality 3, has two movements, of which the first has two texts
@@ -16,21 +18,22 @@ pub const RECORDS: [[u8; 80]; 11] = [
     *b"88999999999999999999000010                                                      ",
 ];
 
-/// The file in blocks.
-pub fn blocks(heap: Global) -> Result<Vec<u8>, AllocError> {
+/// The file.
+pub fn file(heap: Global, framing: Framing) -> Result<Vec<u8>, AllocError> {
     let mut bytes = Vec::new(heap);
     for record in &RECORDS {
         bytes.extend_from_slice(record)?;
+        bytes.extend_from_slice(framing.line_end())?;
     }
     Ok(bytes)
 }
 
-/// The file in lines.
-pub fn lines(heap: Global) -> Result<Vec<u8>, AllocError> {
-    let mut bytes = Vec::new(heap);
-    for record in &RECORDS {
-        bytes.extend_from_slice(record)?;
-        bytes.extend_from_slice(b"\r\n")?;
-    }
-    Ok(bytes)
+/// A volume in page 850.
+pub fn volume(bytes: &[u8], framing: Framing) -> Volume<'_> {
+    Volume::new(bytes, framing, CodeTable::from(CodePage::Page850))
+}
+
+/// An image in page 850.
+pub fn image(bytes: &mut [u8], framing: Framing) -> Image<'_> {
+    Image::new(bytes, framing, CodeTable::from(CodePage::Page850))
 }

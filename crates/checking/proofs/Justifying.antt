@@ -1,27 +1,31 @@
 -- A number that is put at the right of its columns. Assumes nothing.
-use Rattle.std.proofs.Common.{◌≡◌, ℕ, ◌+◌, ◌-◌, ◌≤◌, List, [], ◌∷◌, ◌++◌, length, replicate, sym, refl, ap, ◌∙◌, append_assoc, append-nil, arith}
-use Rattle.std.proofs.lemmas.List.{replicate_more}
+use Rattle.std.proofs.Common.{◌≡◌, ℕ, zero, suc, ◌-◌, ◌^◌, ◌==◌, false, List, [], ◌∷◌, ◌++◌, length, replicate, refl, ap, ◌∙◌, append_assoc, append-nil, arith}
+use Rattle.std.specs.Fmt.{decimal, char_count, padded_integral, format_spec, styled_decimal}
+use Rattle.std.specs.List.{repeat}
+use lib.Utf8.{encode}
 use Rattle.checking.specs.Lines.{justified}
 
--- so far there are k - n spaces
-pub no_space : (line : List ℕ) (n : ℕ) → line ≡ line ++ replicate (n - n) 32
-no_space line n = let none : n - n ≡ 0 = omega arith in sym (ap (λ k. line ++ replicate k 32) none ∙ append-nil line)
+-- so many times one byte
+spaces : (n : ℕ) → repeat {A = ℕ} n (32 ∷ []) ≡ replicate n 32
+spaces zero = refl
+spaces (suc n) = ap (λ bytes. 32 ∷ bytes) (spaces n)
 
-pub one_space_more : (line l l' : List ℕ) (k n : ℕ) → l ≡ line ++ replicate (k - n) 32 → l' ≡ l ++ (32 ∷ []) → n ≤ k → l' ≡ line ++ replicate ((k + 1) - n) 32
-one_space_more line l l' k n h e le =
-    let one : (k - n) + 1 ≡ (k + 1) - n = omega (arith, le) in
-    e ∙ (ap (λ x. x ++ (32 ∷ [])) h ∙ (append_assoc line (replicate (k - n) 32) (32 ∷ []) ∙ ap (λ x. line ++ x) (replicate_more (k - n) 32 ∙ ap (λ j. replicate j 32) one)))
+-- no byte stands behind the digits
+before : (k : ℕ) (digits : List ℕ) → repeat {A = ℕ} k (32 ∷ []) ++ [] ++ [] ++ [] ++ (digits ++ repeat {A = ℕ} (k - k) (32 ∷ [])) ≡ replicate k 32 ++ digits
+before k digits =
+    let none : k - k ≡ 0 = omega arith in
+    let empty = append-nil (repeat {A = ℕ} k (32 ∷ [])) in
+    rw (none, append-nil digits) (rw (empty, empty, empty, spaces k) refl)
 
-pub then_digits : (line l l' ds : List ℕ) (k n w : ℕ) → l ≡ line ++ replicate (k - n) 32 → l' ≡ l ++ ds → n ≡ length ds → n ≤ k → k - n ≤ w - n → w ≤ k → l' ≡ line ++ (replicate (w - length ds) 32 ++ ds)
-then_digits line l l' ds k n w h e long le few all =
-    let many : k - n ≡ w - length ds = omega (arith, long, le, few, all) in
-    e ∙ (ap (λ x. x ++ ds) (h ∙ ap (λ j. line ++ replicate j 32) many) ∙ append_assoc line (replicate (w - length ds) 32) ds)
+-- `{n:>w}` writes a number at the right of w columns
+pub in_columns : (w n : ℕ) → (w == 0) ≡ false → styled_decimal (format_spec 32 3 0 w (2 ^ 64 - 1)) n ≡ justified w n
+unfolding padded_integral char_count encode
+in_columns w n some =
+    let all : w - length (decimal n) - 0 - 0 ≡ w - length (decimal n) = omega arith in
+    rw some (before (w - length (decimal n) - 0 - 0) (decimal n) ∙ ap (λ k. replicate k 32 ++ decimal n) all)
 
--- parts that are appended one by one
-pub appended : (b₀ b₁ b₂ b₃ b₄ b₅ b₆ b₇ x₁ x₂ x₃ x₄ x₅ x₆ x₇ : List ℕ) → b₀ ≡ [] → b₁ ≡ b₀ ++ x₁ → b₂ ≡ b₁ ++ x₂ → b₃ ≡ b₂ ++ x₃ → b₄ ≡ b₃ ++ x₄ → b₅ ≡ b₄ ++ x₅ → b₆ ≡ b₅ ++ x₆ → b₇ ≡ b₆ ++ x₇ → b₇ ≡ (x₁ ++ (x₂ ++ (x₃ ++ x₄))) ++ (x₅ ++ (x₆ ++ x₇))
-appended b₀ b₁ b₂ b₃ b₄ b₅ b₆ b₇ x₁ x₂ x₃ x₄ x₅ x₆ x₇ e₀ e₁ e₂ e₃ e₄ e₅ e₆ e₇ =
-    rw (e₇, e₆, e₅, e₄, e₃, e₂, e₁, e₀) (rw (append_assoc x₁ x₂ x₃, append_assoc x₁ (x₂ ++ x₃) x₄, append_assoc x₂ x₃ x₄) (rw (append_assoc (x₁ ++ (x₂ ++ (x₃ ++ x₄))) x₅ x₆, append_assoc (x₁ ++ (x₂ ++ (x₃ ++ x₄))) (x₅ ++ x₆) x₇, append_assoc x₅ x₆ x₇) refl))
-
--- the same number under another name
-pub same_number : (a b : List ℕ) (w n m : ℕ) → b ≡ a ++ justified w n → n ≡ m → b ≡ a ++ justified w m
-same_number a b w n m h e = h ∙ ap (λ k. a ++ justified w k) e
+-- the parts of a line, one after another
+pub in_line : (b₁ b₂ b₃ b₄ b₅ b₆ x₁ x₂ x₃ x₄ x₅ x₆ x₇ : List ℕ) → b₁ ≡ x₁ → b₂ ≡ x₂ → b₃ ≡ x₃ → b₄ ≡ x₄ → b₅ ≡ x₅ → b₆ ≡ x₆ → b₁ ++ (b₂ ++ (b₃ ++ (b₄ ++ (b₅ ++ (b₆ ++ x₇))))) ≡ (x₁ ++ (x₂ ++ (x₃ ++ x₄))) ++ (x₅ ++ (x₆ ++ x₇))
+in_line b₁ b₂ b₃ b₄ b₅ b₆ x₁ x₂ x₃ x₄ x₅ x₆ x₇ e₁ e₂ e₃ e₄ e₅ e₆ =
+    let back = x₅ ++ (x₆ ++ x₇) in
+    rw (e₁, e₂, e₃, e₄, e₅, e₆) (rw (append_assoc x₁ (x₂ ++ (x₃ ++ x₄)) back, append_assoc x₂ (x₃ ++ x₄) back, append_assoc x₃ x₄ back) refl)

@@ -1,7 +1,7 @@
-use crate::wording::{Characters, Day, Many, signed};
+use crate::wording::{Amount, Characters, Day, Many};
 use fields::Key;
 use rows::{AccountRow, MovementRow, Statement};
-use values::{OpenAccount, Turnover};
+use values::{AccountHead, OpenAccount, Turnover};
 
 /// Tells each account of a statement.
 pub fn tell_accounts(rt: &HostRuntime, statement: &Statement) -> anyhow::Result<()> {
@@ -15,24 +15,38 @@ pub fn tell_accounts(rt: &HostRuntime, statement: &Statement) -> anyhow::Result<
 }
 
 fn tell_account(rt: &HostRuntime, account: &AccountRow, own: &[MovementRow]) -> anyhow::Result<()> {
-    let turned = turned_over(account, own);
-    let head = turned.head;
-    let entity = head.number.entity;
-    let office = head.number.office;
-    let number = head.number.number;
+    let AccountHead {
+        number,
+        period,
+        initial,
+        currency,
+        ..
+    } = account.head;
     let name = Characters(&account.name);
     println!(rt; "")?;
-    println!(rt; "  account {entity:04} {office:04} {number:010}, {name}")?;
-    let first = Day(head.period.first);
-    let last = Day(head.period.last);
-    let currency = head.currency;
-    println!(rt; "    {first} to {last}, currency {currency:03}")?;
-    let initial = u128::from(head.initial.amount);
-    tell_amount(rt, "initial balance", head.initial.key, initial)?;
+    println!(rt;
+        "  account {:04} {:04} {:010}, {name}",
+        number.entity, number.office, number.number
+    )?;
+    println!(rt;
+        "    {} to {}, currency {currency:03}",
+        Day(period.first),
+        Day(period.last)
+    )?;
+    let turned = own
+        .iter()
+        .fold(OpenAccount::new(account.head), |turned, row| {
+            turned.turned(row.movement.key, row.movement.amount)
+        });
+    tell_amount(
+        rt,
+        "initial balance",
+        Amount(initial.key, u128::from(initial.amount)),
+    )?;
     tell_side(rt, "debit", Key::Debit, turned.debits)?;
     tell_side(rt, "credit", Key::Credit, turned.credits)?;
     let key = account.final_key.unwrap_or(Key::Credit);
-    tell_amount(rt, "final balance", key, turned.final_amount())?;
+    tell_amount(rt, "final balance", Amount(key, turned.final_amount()))?;
     let movements = Many(own.len() as u64, "movement");
     let texts = Many(texts_of(own), "text");
     println!(rt; "    {movements}, {texts}")?;
@@ -41,42 +55,19 @@ fn tell_account(rt: &HostRuntime, account: &AccountRow, own: &[MovementRow]) -> 
 
 fn tell_side(rt: &HostRuntime, name: &'static str, key: Key, side: Turnover) -> anyhow::Result<()> {
     let label = Many(u64::from(side.count), name).to_string(rt.alloc())?;
-    tell_amount(rt, label.as_str(), key, u128::from(side.total))
+    tell_amount(rt, label.as_str(), Amount(key, u128::from(side.total)))
 }
 
-fn tell_amount(rt: &HostRuntime, label: &str, key: Key, hundredths: u128) -> anyhow::Result<()> {
-    let amount = signed(rt.alloc(), key, hundredths)?;
+fn tell_amount(rt: &HostRuntime, label: &str, amount: Amount) -> anyhow::Result<()> {
+    let amount = amount.to_string(rt.alloc())?;
     println!(rt; "    {label:<18}{amount:>18}")?;
     Ok(())
 }
 
-// An account after its own movements.
-fn turned_over(account: &AccountRow, own: &[MovementRow]) -> OpenAccount {
-    OpenAccount {
-        head: account.head,
-        debits: turnover(own, Key::Debit),
-        credits: turnover(own, Key::Credit),
-    }
-}
-
-// How many movements have this key, and their total.
-fn turnover(own: &[MovementRow], key: Key) -> Turnover {
-    let mut count: u32 = 0;
-    let mut total: u64 = 0;
-    for row in own {
-        if row.movement.key == key {
-            count = count.saturating_add(1);
-            total = total.saturating_add(row.movement.amount);
-        }
-    }
-    Turnover { count, total }
-}
-
 // How many texts the movements have.
 fn texts_of(own: &[MovementRow]) -> u64 {
-    let mut texts: u64 = 0;
-    for row in own {
-        texts = texts.saturating_add(u64::from(row.texts));
-    }
-    texts
+    own.iter().fold(
+        0u64,
+        |texts, row| texts.saturating_add(u64::from(row.texts)),
+    )
 }

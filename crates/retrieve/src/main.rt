@@ -9,33 +9,27 @@ mod audits;
 mod copies;
 mod holdings;
 mod notices;
+mod rooms;
 mod ways;
 mod wording;
 
 use accounts::tell_accounts;
-use anyhow::anyhow;
+use anyhow::bail;
 use arguments::named_volumes;
-use copies::make_copies;
-use holdings::{VolumeFile, most_rows, read_holding, tell_counts, tell_volumes};
-use notices::{tell_numbers, tell_refusal};
+use copies::Counted;
+use holdings::{VolumeFile, most_rows, read_holding, tell_volumes};
+use notices::{Numbers, Refused};
 use recalling::check_tables;
-use rows::accounts::UNUSED_ACCOUNT;
-use rows::movements::UNUSED_MOVEMENT;
-use rows::texts::UNUSED_TEXT;
+use rooms::{Room, Size};
 use rows::{Notice, Statement};
-use table::Table;
 use ways::Way;
 
 fn main(rt: HostRuntime) -> anyhow::Result<()> {
-    run(&rt)
-}
-
-fn run(rt: &HostRuntime) -> anyhow::Result<()> {
-    let volumes = named_volumes(rt)?;
+    let volumes = named_volumes(&rt)?;
     if volumes.is_empty() {
-        return recall_samples(rt);
+        return recall_samples(&rt);
     }
-    recall(rt, volumes.as_slice())
+    recall(&rt, volumes.as_slice())
 }
 
 // The first volume of each sample is a disk image, the second a tape image.
@@ -48,50 +42,46 @@ fn recall_samples(rt: &HostRuntime) -> anyhow::Result<()> {
 }
 
 fn recall_sample(rt: &HostRuntime, tape: &str) -> anyhow::Result<()> {
-    let disk = VolumeFile::load(rt, Way::Lines850, "holding-1.disk")?;
-    let tape = VolumeFile::load(rt, Way::Blocks284, tape)?;
+    let disk = VolumeFile::load(rt, Way::DISK, "holding-1.disk")?;
+    let tape = VolumeFile::load(rt, Way::TAPE, tape)?;
     recall(rt, &[disk, tape])
 }
 
 // Reads a holding, and writes its copies unless it is refused.
 fn recall(rt: &HostRuntime, volumes: &[VolumeFile]) -> anyhow::Result<()> {
-    let heap = rt.alloc();
-    let rows = most_rows(volumes);
-    let mut accounts = vec![in heap; UNUSED_ACCOUNT; rows]?;
-    let mut movements = vec![in heap; UNUSED_MOVEMENT; rows]?;
-    let mut texts = vec![in heap; UNUSED_TEXT; rows]?;
-    let mut accounts = Table::new(&mut accounts);
-    let mut movements = Table::new(&mut movements);
-    let mut texts = Table::new(&mut texts);
+    let mut room = Room::of_each(rt.alloc(), most_rows(volumes))?;
+    let mut tables = room.tables();
     tell_volumes(rt, volumes)?;
-    let answer = read_holding(volumes, &mut accounts, &mut movements, &mut texts)?;
-    let statement = Statement {
-        accounts: accounts.rows(),
-        movements: movements.rows(),
-        texts: texts.rows(),
-    };
+    let answer = read_holding(volumes, &mut tables)?;
+    let statement = tables.statement();
+    let size = Size::from(&statement);
     match answer {
-        Ok(_) => copy_holding(rt, &statement),
+        Ok(_) => {
+            println!(rt; "  read to its end: {size}")?;
+            copy_statement(rt, statement)
+        }
         Err(refusal) => {
-            tell_refusal(rt, refusal.notice())?;
-            tell_counts(rt, "read before it", &statement)
+            println!(rt; "It is refused.")?;
+            println!(rt; "  {}", Refused(refusal))?;
+            println!(rt; "  {}", Numbers(Notice::from(refusal)))?;
+            println!(rt; "  read before it: {size}")?;
+            Ok(())
         }
     }
 }
 
-// Tells what was read to its end, and copies it.
-fn copy_holding(rt: &HostRuntime, statement: &Statement) -> anyhow::Result<()> {
-    tell_counts(rt, "read to its end", statement)?;
-    match check_tables(statement) {
+// Tells the accounts of a statement, and copies it.
+fn copy_statement(rt: &HostRuntime, statement: Statement<'_>) -> anyhow::Result<()> {
+    match check_tables(&statement) {
         Ok(records) => {
             println!(rt; "  its tables are a statement of {records} records")?;
-            tell_accounts(rt, statement)?;
+            tell_accounts(rt, &statement)?;
             println!(rt; "")?;
-            make_copies(rt, statement, records)
+            Counted { statement, records }.make_copies(rt)
         }
         Err(refusal) => {
-            tell_numbers(rt, Notice::from(refusal))?;
-            Err(anyhow!("the tables are no statement"))
+            println!(rt; "  {}", Numbers(Notice::from(refusal)))?;
+            bail!("the tables are no statement")
         }
     }
 }

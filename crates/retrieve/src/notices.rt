@@ -1,51 +1,86 @@
-use rows::{Layer, Notice};
+use archiving::ReadRefusal;
+use reading::{Cause, Told};
+use records::Question;
+use rows::Notice;
+use std::fmt;
 
-/// Tells that a holding is refused: in words, and in the numbers of its notice.
-pub fn tell_refusal(rt: &HostRuntime, notice: Notice) -> anyhow::Result<()> {
-    let record = notice.record;
-    let why = words(notice.number);
-    let place = notice.place;
-    let volume = notice.volume;
-    println!(rt; "It is refused.")?;
-    match notice.layer {
-        Layer::Carrier => println!(rt;
-            "  record {record} is damaged: at byte place {place} of volume {volume}, {why}"
-        )?,
-        Layer::Reading if place == 0 => println!(rt; "  record {record} is missing: {why}")?,
-        Layer::Reading => println!(rt; "  record {record} is wrong: in column {place}, {why}")?,
-        Layer::Tables => println!(rt; "  record {record} has no row: {why}")?,
+/// Why a holding is refused, in words.
+#[derive(Clone, Copy)]
+pub struct Refused(pub ReadRefusal);
+
+impl fmt::Display for Refused {
+    fn fmt<W: fmt::Write>(&self, f: &mut fmt::Formatter<W>) -> fmt::Result {
+        match self.0 {
+            ReadRefusal::Carrier(fault, record) => {
+                let (place, volume) = (fault.place, fault.volume);
+                let why = fault_words(fault.number);
+                write!(
+                    f,
+                    "record {record} is damaged: at byte place {place} of volume {volume}, {why}"
+                )
+            }
+            ReadRefusal::Reading(refusal) => {
+                let record = refusal.record;
+                let why = cause_words(refusal.cause);
+                match Told::from(refusal).column {
+                    0 => write!(f, "record {record} is missing: {why}"),
+                    column => write!(f, "record {record} is wrong: in column {column}, {why}"),
+                }
+            }
+            ReadRefusal::NoRow(_, record) => {
+                write!(f, "record {record} has no row: a table is full")
+            }
+        }
     }
-    tell_numbers(rt, notice)
 }
 
-/// Tells the numbers of a notice.
-pub fn tell_numbers(rt: &HostRuntime, notice: Notice) -> anyhow::Result<()> {
-    let layer = notice.layer.number();
-    let number = notice.number;
-    let record = notice.record;
-    let place = notice.place;
-    let volume = notice.volume;
-    println!(rt;
-        "  layer {layer}, number {number}, record {record}, place {place}, volume {volume}"
-    )?;
-    Ok(())
-}
-
-// What a number says.
-fn words(number: u16) -> &'static str {
+// What a carrier's fault says, which has only its number.
+fn fault_words(number: u16) -> &'static str {
     match number {
-        1 => "it is not 80 bytes long",
-        2 => "a byte is no character",
-        3 => "its code is none of the six",
-        4 => "its kind may not come here",
-        5 => "a field has not its form",
-        6 => "a field has a wrong value",
-        7 => "a field does not agree with what came before",
-        8 => "a limit is passed",
-        9 => "the file end has not come",
         21 => "a whole record with its end is missing",
         22 => "a byte reads as no character",
-        31 => "a table is full",
         _ => "it is refused",
+    }
+}
+
+fn cause_words(cause: Cause) -> &'static str {
+    match cause {
+        Cause::Length => "it is not 80 bytes long",
+        Cause::Character(_) => "a byte is no character",
+        Cause::Code => "its code is none of the six",
+        Cause::Order => "its kind may not come here",
+        Cause::RecordLimit => "a limit is passed",
+        Cause::Field(refusal) => question_words(refusal.question),
+        Cause::Unfinished => "the file end has not come",
+    }
+}
+
+fn question_words(question: Question) -> &'static str {
+    match question {
+        Question::Form => "a field has not its form",
+        Question::Value => "a field has a wrong value",
+        Question::Agreement => "a field does not agree with what came before",
+        Question::Limit => "a limit is passed",
+    }
+}
+
+/// The numbers of a notice.
+#[derive(Clone, Copy)]
+pub struct Numbers(pub Notice);
+
+impl fmt::Display for Numbers {
+    fn fmt<W: fmt::Write>(&self, f: &mut fmt::Formatter<W>) -> fmt::Result {
+        let Notice {
+            layer,
+            number,
+            record,
+            place,
+            volume,
+        } = self.0;
+        let layer = layer.number();
+        write!(
+            f,
+            "layer {layer}, number {number}, record {record}, place {place}, volume {volume}"
+        )
     }
 }

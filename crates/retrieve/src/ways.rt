@@ -1,79 +1,79 @@
+use anyhow::Context;
 use charset::{CodePage, CodeTable};
 use media::{Framing, Image, Volume};
+use std::fmt;
+use std::str::FromStr;
 
-/// How a volume is written: in lines or blocks, in one of the two code pages.
+/// How a volume is written: how its records follow one another, and its code page.
 #[derive(Clone, Copy)]
-pub enum Way {
-    Lines850,
-    Lines284,
-    Blocks850,
-    Blocks284,
+pub struct Way {
+    pub framing: Framing,
+    pub page: CodePage,
+}
+
+impl FromStr for Way {
+    type Err = anyhow::Error;
+
+    fn from_str(word: &str) -> anyhow::Result<Way> {
+        named(word).context("before each file say lines-850, lines-284, blocks-850 or blocks-284")
+    }
+}
+
+// The way that a word names, if any.
+fn named(word: &str) -> Option<Way> {
+    let (framing, page) = word.split_once('-')?;
+    let framing = match framing {
+        "lines" => Framing::Lines,
+        "blocks" => Framing::Blocks,
+        _ => return None,
+    };
+    let page = match page {
+        "850" => CodePage::Page850,
+        "284" => CodePage::Page284,
+        _ => return None,
+    };
+    Some(Way { framing, page })
+}
+
+impl fmt::Display for Way {
+    fn fmt<W: fmt::Write>(&self, f: &mut fmt::Formatter<W>) -> fmt::Result {
+        let framing = match self.framing {
+            Framing::Lines => "lines",
+            Framing::Blocks => "blocks",
+        };
+        let page = match self.page {
+            CodePage::Page850 => "page 850",
+            CodePage::Page284 => "EBCDIC page 284",
+        };
+        write!(f, "{framing} in {page}")
+    }
 }
 
 impl Way {
-    /// The way that a word names, if any.
-    pub fn of_word(word: &str) -> Option<Way> {
-        match word {
-            "lines-850" => Some(Way::Lines850),
-            "lines-284" => Some(Way::Lines284),
-            "blocks-850" => Some(Way::Blocks850),
-            "blocks-284" => Some(Way::Blocks284),
-            _ => None,
-        }
-    }
+    /// How disks are written.
+    pub const DISK: Way = Way {
+        framing: Framing::Lines,
+        page: CodePage::Page850,
+    };
 
-    /// This way in words.
-    pub fn words(self) -> &'static str {
-        match self {
-            Way::Lines850 => "lines in page 850",
-            Way::Lines284 => "lines in EBCDIC page 284",
-            Way::Blocks850 => "blocks in page 850",
-            Way::Blocks284 => "blocks in EBCDIC page 284",
-        }
-    }
+    /// How tapes are written.
+    pub const TAPE: Way = Way {
+        framing: Framing::Blocks,
+        page: CodePage::Page284,
+    };
 
     /// How many bytes so many records take.
     pub fn length(self, records: u32) -> usize {
-        let stride = match self {
-            Way::Lines850 | Way::Lines284 => Framing::Lines.stride(),
-            Way::Blocks850 | Way::Blocks284 => Framing::Blocks.stride(),
-        };
-        stride.saturating_mul(records as usize)
+        self.framing.stride().saturating_mul(records as usize)
     }
 
     /// A volume over bytes that are written this way.
     pub fn volume(self, bytes: &[u8]) -> Volume<'_> {
-        match self {
-            Way::Lines850 => Volume::new(bytes, Framing::Lines, CodeTable::from(CodePage::Page850)),
-            Way::Lines284 => Volume::new(bytes, Framing::Lines, CodeTable::from(CodePage::Page284)),
-            Way::Blocks850 => Volume::new(
-                bytes,
-                Framing::Blocks,
-                CodeTable::from(CodePage::Page850),
-            ),
-            Way::Blocks284 => Volume::new(
-                bytes,
-                Framing::Blocks,
-                CodeTable::from(CodePage::Page284),
-            ),
-        }
+        Volume::new(bytes, self.framing, CodeTable::from(self.page))
     }
 
     /// An image over bytes that will be written this way.
     pub fn image(self, bytes: &mut [u8]) -> Image<'_> {
-        match self {
-            Way::Lines850 => Image::new(bytes, Framing::Lines, CodeTable::from(CodePage::Page850)),
-            Way::Lines284 => Image::new(bytes, Framing::Lines, CodeTable::from(CodePage::Page284)),
-            Way::Blocks850 => Image::new(
-                bytes,
-                Framing::Blocks,
-                CodeTable::from(CodePage::Page850),
-            ),
-            Way::Blocks284 => Image::new(
-                bytes,
-                Framing::Blocks,
-                CodeTable::from(CodePage::Page284),
-            ),
-        }
+        Image::new(bytes, self.framing, CodeTable::from(self.page))
     }
 }

@@ -1,5 +1,4 @@
 use fields::{Date, Key};
-use std::alloc::{AllocError, Global};
 use std::fmt;
 
 /// A count of things, in words: `1 text`, `2 texts`.
@@ -8,8 +7,7 @@ pub struct Many(pub u64, pub &'static str);
 
 impl fmt::Display for Many {
     fn fmt<W: fmt::Write>(&self, f: &mut fmt::Formatter<W>) -> fmt::Result {
-        let count = self.0;
-        let thing = self.1;
+        let Many(count, thing) = *self;
         let plural = if count == 1 { "" } else { "s" };
         write!(f, "{count} {thing}{plural}")
     }
@@ -46,13 +44,19 @@ impl fmt::Display for Day {
     }
 }
 
-/// An amount of hundredths with the sign of its key and two decimals.
-pub fn signed(heap: Global, key: Key, hundredths: u128) -> Result<String, AllocError> {
-    let sign = match key {
-        Key::Debit => '-',
-        Key::Credit => '+',
-    };
-    let units = hundredths / 100;
-    let rest = hundredths % 100;
-    format!(in heap; "{sign}{units}.{rest:02}")
+/// An amount of hundredths, with the sign of its key and two decimals.
+#[derive(Clone, Copy)]
+pub struct Amount(pub Key, pub u128);
+
+impl fmt::Display for Amount {
+    fn fmt<W: fmt::Write>(&self, f: &mut fmt::Formatter<W>) -> fmt::Result {
+        let Amount(key, hundredths) = *self;
+        let sign = match key {
+            Key::Debit => '-',
+            Key::Credit => '+',
+        };
+        let units = hundredths / 100;
+        let rest = hundredths % 100;
+        write!(f, "{sign}{units}.{rest:02}")
+    }
 }

@@ -8,14 +8,10 @@ use rows::texts::UNUSED_TEXT;
 use std::fs;
 use table::Table;
 
-// How many rows each table has, as in `check`.
+// How many rows each table has, as in `check_statement`.
 const ROWS: usize = 800;
 
 fn main(rt: HostRuntime) -> anyhow::Result<()> {
-    run(&rt)
-}
-
-fn run(rt: &HostRuntime) -> anyhow::Result<()> {
     let heap = rt.alloc();
     let mut accounts = vec![in heap; UNUSED_ACCOUNT; ROWS]?;
     let mut movements = vec![in heap; UNUSED_MOVEMENT; ROWS]?;
@@ -23,20 +19,19 @@ fn run(rt: &HostRuntime) -> anyhow::Result<()> {
     let mut accounts = Table::new(&mut accounts);
     let mut movements = Table::new(&mut movements);
     let mut texts = Table::new(&mut texts);
-    let expected = fs::read_to_string(rt, "expected")?;
-    let mut cases = 0u64;
+    let expected = fs::read_to_string(&rt, "expected")?;
     let mut equal = 0u64;
     for (number, line) in expected.lines().enumerate() {
         let path = format!(in heap; "{number:03}.c43")?;
-        let input = fs::read(rt, path.as_str())?;
-        let told = check(&input, &mut accounts, &mut movements, &mut texts).line(heap)?;
-        cases = cases.saturating_add(1);
+        let input = fs::read(&rt, path.as_str())?;
+        let told = check(&input, &mut accounts, &mut movements, &mut texts).to_string(heap)?;
         if told.as_str().trim_end() == line.trim_end() {
             equal = equal.saturating_add(1);
         } else {
             println!(rt; "{path}: expected '{line}', found '{told}'")?;
         }
     }
+    let cases = expected.lines().count();
     println!(rt; "{equal} of {cases} cases as expected")?;
     Ok(())
 }
