@@ -11,6 +11,7 @@ pub fn read_number(field: &[u8]) -> Option<u64>
     ensures value { result ≡ number_in field.now }
     ensures back { WrittenBack field.now result }
 {
+    // A `try_fold` would say the same steps in a closure, and is no plainer.
     let mut value: u64 = 0;
     for &byte in field {
         if !byte.is_ascii_digit() {

@@ -9,6 +9,7 @@ const WEIGHTS: [u64; 11] = [2, 3, 4, 5, 6, 7, 8, 9, 2, 3, 4];
 pub fn check_digit(number: u64) -> u8
     ensures { result ≡ check_digit number }
 {
+    // A fold would carry the sum and the rest as a pair, and is no plainer.
     let mut sum = 0;
     let mut rest = number;
     for weight in WEIGHTS {

@@ -7,6 +7,7 @@ use crate::framing::RECORD_LENGTH;
 /// What is wrong with a carrier, and where.
 #[derive(Clone, Copy, PartialEq, Eq, Debug)]
 pub struct Fault {
+    /// A number and no enum: a carrier of another kind than a volume has faults of its own.
     pub number: u16,
     /// The byte place in its volume, counted from 0.
     pub place: usize,
@@ -35,6 +36,7 @@ pub trait Carrier {
 
     /// Copies the first record left, 80 characters, into the caller's bytes, removes it and answers true. With none left it
     /// answers false at a clean end, and else its fault, and neither those bytes nor the carrier change.
+    // A bool and no Option of a record: the rules have the record copied into the caller's bytes.
     fn draw(&mut self, into: &mut [u8; RECORD_LENGTH]) -> Result<bool, Fault>
         ensures drawn { Draws (records self.old) (ending self.old) into.old (records self.new) into.new result }
         ensures kept { Stays self.old self.new result }

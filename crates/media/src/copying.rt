@@ -21,6 +21,7 @@ pub fn copy<C: Carrier, O: Output>(carrier: &mut C, output: &mut O) -> Result<Co
 {
     let places = output.places();
     let mut characters = [b' '; RECORD_LENGTH];
+    // A match and no `?` on a fault: it is how the carrier ended, and no error of the copy.
     let ending = loop {
         match carrier.draw(&mut characters) {
             Ok(true) => output.put(&characters)?,

@@ -10,6 +10,7 @@ mod putting;
 #[derive(Drop)]
 pub struct Image<'a> {
     bytes: &'a mut [u8],
+    // Beside the bytes: they are the caller's, and no heap is used.
     position: usize,
     table: CodeTable,
     framing: Framing,

@@ -12,6 +12,7 @@ pub enum PutRefusal {
 
 impl PutRefusal {
     /// The number of this refusal.
+    // A method: `u16::from(refusal)` would not say which number.
     pub fn number(self) -> u16
         ensures { result ≡ put_number self }
     {

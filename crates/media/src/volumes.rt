@@ -9,6 +9,7 @@ mod drawing;
 #[derive(Drop)]
 pub struct Volume<'a> {
     bytes: &'a [u8],
+    // Beside the bytes, which stay whole: the place of a fault is counted from their start.
     position: usize,
     table: CodeTable,
     framing: Framing,

@@ -34,6 +34,7 @@ pub struct Refusal {
 /// What a refusal tells; the column is 0 where it tells none.
 #[derive(Clone, Copy, PartialEq, Eq, Debug)]
 pub struct Told {
+    /// A number and no enum: the rules number refusals, and two causes have the number 8.
     pub number: u16,
     pub record: u32,
     pub column: u8,

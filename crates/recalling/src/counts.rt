@@ -6,7 +6,7 @@ ghost use Rattle.recalling.specs.Statements.{rows_lent};
 use crate::refusals::TableRefusal;
 use rows::{AccountRow, MovementRow, Statement};
 
-// How many movements the accounts have.
+// How many movements the accounts have. One function for both counts would take a closure and clauses for it.
 fn movements_of(accounts: &[AccountRow]) -> u128
     ensures { result ≡ movements_of accounts.now }
 {

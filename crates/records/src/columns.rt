@@ -85,7 +85,7 @@ pub(crate) fn date(offered: &[u8; 80], field: Columns) -> Result<Date, FieldRefu
     Ok(date)
 }
 
-// A code of the currencies.
+// A code of the currencies. One function for both lists would take the list, its test and its clause, and is no plainer.
 #[tactic(auto, using(crate::proofs::Judging::chain), unfolding(crate::specs::Checks::currency, crate::specs::Checks::is_currency))]
 pub(crate) fn currency(offered: &[u8; 80], field: Columns) -> Result<u32, FieldRefusal>
     requires { field.to ≤ field.from + 8 }

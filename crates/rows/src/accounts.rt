@@ -1,5 +1,6 @@
-use fields::{Date, Key, Modality};
-use values::{AccountHead, AccountNumber, Balance, Period};
+use fields::Key;
+use values::AccountHead;
+use values::parts::NO_HEAD;
 
 /// An account: what its record says, how many movements it has, and the key of its final balance, which is absent
 /// until its end has come.
@@ -12,24 +13,9 @@ pub struct AccountRow {
 }
 
 /// What an account row can hold before it is filled.
+// A constant, which fills arrays; a Default would give names of zero bytes in place of spaces.
 pub const UNUSED_ACCOUNT: AccountRow = AccountRow {
-    head: AccountHead {
-        number: AccountNumber {
-            entity: 0,
-            office: 0,
-            number: 0,
-        },
-        period: Period {
-            first: Date { digits: 0 },
-            last: Date { digits: 0 },
-        },
-        initial: Balance {
-            key: Key::Debit,
-            amount: 0,
-        },
-        currency: 0,
-        modality: Modality::First,
-    },
+    head: NO_HEAD,
     name: [b' '; 26],
     movements: 0,
     final_key: None,

@@ -14,6 +14,7 @@ pub enum Layer {
 
 impl Layer {
     /// The number of this layer.
+    // A method: `layer.number()` says what `u8::from(layer)` leaves open.
     pub fn number(self) -> u8
         ensures { result ≡ layer_number self }
     {
@@ -26,6 +27,7 @@ impl Layer {
 #[derive(Clone, Copy, PartialEq, Eq, Debug)]
 pub struct Notice {
     pub layer: Layer,
+    /// A number and no enum: notices tell the refusals of every crate, and the faults of any carrier.
     pub number: u16,
     pub record: u32,
     pub place: usize,

@@ -24,6 +24,7 @@ pub enum TableKind {
 
 impl TableKind {
     /// The place that a refusal about this table tells.
+    // A method: `u8::from(table)` would not say which number.
     pub fn number(self) -> u8
         ensures { result ≡ table_number self }
     {

@@ -6,6 +6,7 @@ mod filling;
 #[derive(Drop)]
 pub struct Table<'a, T> {
     rows: &'a mut [T],
+    // Beside the rows, and no Vec: they are the caller's, and no heap is used.
     filled: usize,
     ghost fits: { filled ≤ length rows.now },
 }

@@ -39,6 +39,25 @@ pub struct AccountHead {
     pub modality: Modality,
 }
 
+/// What stands for the head of an account where there is none.
+pub const NO_HEAD: AccountHead = AccountHead {
+    number: AccountNumber {
+        entity: 0,
+        office: 0,
+        number: 0,
+    },
+    period: Period {
+        first: Date { digits: 0 },
+        last: Date { digits: 0 },
+    },
+    initial: Balance {
+        key: Key::Debit,
+        amount: 0,
+    },
+    currency: 0,
+    modality: Modality::First,
+};
+
 /// An account whose end has not come: its head, and its movements so far.
 #[derive(Clone, Copy, PartialEq, Eq, Debug)]
 pub struct OpenAccount {

@@ -5,6 +5,7 @@ use crate::CodeTableRefusal;
 
 impl CodeTableRefusal {
     /// The number of this refusal.
+    // A method, as `place` is: `u16::from(refusal)` would not say which of the two.
     pub fn number(&self) -> u16
         ensures { result ≡ refusal_number self.now }
     {

@@ -11,7 +11,6 @@ use crate::kinds::Kind;
 use crate::phases::Phase;
 use crate::readings::Reading;
 use crate::refusals::{Cause, Refusal};
-use fields::{Date, Key, Modality};
 use records::FieldRefusal;
 use records::account_ends::read_account_end;
 use records::accounts::read_account;
@@ -19,26 +18,8 @@ use records::equivalents::read_equivalent;
 use records::file_ends::read_file_end;
 use records::movements::read_movement;
 use records::texts::read_text;
-use values::{AccountHead, AccountNumber, Balance, OpenAccount, Period};
-
-// What stands for the head of the open account before one has begun.
-const NO_HEAD: AccountHead = AccountHead {
-    number: AccountNumber {
-        entity: 0,
-        office: 0,
-        number: 0,
-    },
-    period: Period {
-        first: Date { digits: 0 },
-        last: Date { digits: 0 },
-    },
-    initial: Balance {
-        key: Key::Debit,
-        amount: 0,
-    },
-    currency: 0,
-    modality: Modality::First,
-};
+use values::OpenAccount;
+use values::parts::NO_HEAD;
 
 // The account that is open after an entry.
 fn account_with(account: &OpenAccount, entry: &Entry) -> OpenAccount
@@ -59,6 +40,7 @@ impl Reading {
         ensures kind { IfOk result (λ e. kind_told e ≡ kind) }
         ensures tells { IfOk result (λ e. Tells self.now.account offered.now e) }
     {
+        // A match on the kind: the six kinds are fixed, and each has arguments and an entry of its own.
         match kind {
             Kind::Account => Ok(Entry::Account(read_account(offered)?, &offered[51..77])),
             Kind::Movement => Ok(Entry::Movement(
