@@ -12,6 +12,7 @@ impl CodeTable {
         let mut decoding = [None; 256];
         let mut encoding = [None; 256];
         for (place, &byte) in bytes.iter().enumerate() {
+            // Looked up by its place: over a `zip` of bytes and characters the proof does not close.
             let character = CHARACTERS[place];
             if decoding[byte as usize].is_some() {
                 return Err(CodeTableRefusal::Repeat(place));
