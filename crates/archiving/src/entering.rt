@@ -4,14 +4,13 @@ ghost use Rattle.std.specs.Result.{result_err};
 ghost use Rattle.table.specs.Rows.{held, LastOf, Fills, revised};
 ghost use Rattle.rows.specs.Kept.{movements_of, texts_of};
 ghost use Rattle.rows.specs.Tables.{rows_in, room_in, Holds};
-ghost use Rattle.archiving.specs.Entering.{account_row, movement_row, text_row, one_movement_more, one_text_more, converted_to, ended_with, with_entry, full, lacking, Whole, granted};
+ghost use Rattle.archiving.specs.Entering.{account_row, movement_row, text_row, with_entry, full, lacking, Whole, granted};
 ghost use Rattle.reading.specs.Taken.{kind_told};
 
-use fields::Key;
 use reading::Entry;
 use rows::{AccountRow, MovementRow, TableKind, Tables, TextRow};
 use table::Table;
-use values::{AccountHead, Equivalent, Movement};
+use values::{AccountHead, Movement};
 
 // The row of an account that begins.
 fn account_row(head: AccountHead, name: &[u8]) -> AccountRow

@@ -3,7 +3,7 @@ ghost use Rattle.archiving.specs.Numbers.{read_notice};
 ghost use Rattle.archiving.specs.declared.refusals.ReadRefusal.TheVariants.{Reading};
 
 use media::Fault;
-use reading::Refusal;
+use reading::{Refusal, Told};
 use rows::{Layer, Notice, TableKind};
 
 /// Why a holding is not read to its end.
@@ -38,7 +38,7 @@ impl From<ReadRefusal> for Notice {
                 volume: fault.volume,
             },
             ReadRefusal::Reading(refusal) => {
-                let told = refusal.told();
+                let told = Told::from(refusal);
                 Notice {
                     layer: Layer::Reading,
                     number: told.number,

@@ -1,5 +1,5 @@
 ghost use Rattle.std.specs.Prelude.{◌≡◌, IfOk};
-ghost use Rattle.composing.specs.Layouts.{digit_or_zero, account_end_layout};
+ghost use Rattle.composing.specs.Layouts.{account_end_layout};
 ghost use Rattle.composing.specs.Parts.{composed};
 ghost use Rattle.composing.specs.Records.{AccountEndRecord};
 
@@ -19,16 +19,6 @@ pub struct AccountClose {
     pub currency: u32,
 }
 
-// The digit of a key, and 0 where it is absent.
-fn key_digit(key: Option<Key>) -> u64
-    ensures { result ≡ digit_or_zero key }
-{
-    match key {
-        Some(key) => u64::from(key.digit()),
-        None => 0,
-    }
-}
-
 /// Composes an account end.
 pub fn compose_account_end(close: &AccountClose) -> Result<[u8; 80], Unfit>
     ensures answer { result ≡ composed (account_end_layout close.now) }
@@ -43,7 +33,7 @@ pub fn compose_account_end(close: &AccountClose) -> Result<[u8; 80], Unfit>
         .number(14, close.debits.total)
         .number(5, u64::from(close.credits.count))
         .number(14, close.credits.total)
-        .number(1, key_digit(close.key))
+        .number(1, close.key.map_or(0, u64::from))
         .number(14, close.amount)
         .number(3, u64::from(close.currency))
         .spaces(4)

@@ -7,6 +7,7 @@ use fields::{write_blank, write_number};
 
 /// A record that is composed from the left. After a number that does not fit, it still keeps the places of those to
 /// come.
+// The buffer and how far it is filled stand side by side: a record has just 80 characters, and no heap is used.
 #[derive(Clone, Copy)]
 pub(crate) struct Composer {
     characters: [u8; 80],
@@ -35,7 +36,7 @@ impl Composer {
     {
         let from = self.filled;
         self.filled = from + width;
-        if !write_number(&mut self.characters[from..from + width], number) {
+        if write_number(&mut self.characters[from..from + width], number).is_err() {
             let column = (from + 1) as u8;
             self.unfit = self.unfit.or(Some(Unfit { column }));
         }
@@ -83,9 +84,6 @@ impl Composer {
         requires { self.filled ≡ 80 }
         ensures { result ≡ so_far self }
     {
-        match self.unfit {
-            None => Ok(self.characters),
-            Some(unfit) => Err(unfit),
-        }
+        self.unfit.map_or(Ok(self.characters), Err)
     }
 }

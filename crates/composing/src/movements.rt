@@ -7,16 +7,6 @@ use crate::composer::Composer;
 use crate::refusals::Unfit;
 use values::Movement;
 
-// The same number, if any.
-fn widened(number: Option<u32>) -> Option<u64>
-    ensures { result ≡ number }
-{
-    match number {
-        Some(number) => Some(u64::from(number)),
-        None => None,
-    }
-}
-
 /// Composes a movement record.
 pub fn compose_movement(movement: &Movement, reference_2: &[u8; 16]) -> Result<[u8; 80], Unfit>
     ensures answer { result ≡ composed (movement_layout movement.now reference_2.now) }
@@ -25,12 +15,12 @@ pub fn compose_movement(movement: &Movement, reference_2: &[u8; 16]) -> Result<[
     Composer::new()
         .number(2, 22)
         .spaces(4)
-        .number_or_spaces(4, widened(movement.origin))
+        .number_or_spaces(4, movement.origin.map(u64::from))
         .number(6, u64::from(movement.operation.digits))
         .number(6, u64::from(movement.value.digits))
         .number(2, u64::from(movement.common))
         .number(3, u64::from(movement.own))
-        .number(1, u64::from(movement.key.digit()))
+        .number(1, u64::from(movement.key))
         .number(14, movement.amount)
         .number(10, movement.document)
         .number_or_spaces(12, movement.reference)

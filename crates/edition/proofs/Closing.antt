@@ -5,7 +5,7 @@ use Rattle.std.proofs.lemmas.Bool.Decides.{nat_tests}
 use Rattle.fields.specs.Codes.{among, currencies}
 use Rattle.fields.specs.declared.keys.Key.{Key}
 use Rattle.fields.specs.declared.keys.Key.TheVariants.{Debit, Credit}
-use Rattle.values.specs.Balances.{most, debit_of, credit_of, balances, owed_to, owed_by, turned, counts_in_limit, stays_in_limit, final_amount}
+use Rattle.values.specs.Balances.{begun, most, debit_of, credit_of, balances, owed_to, owed_by, turned, counts_in_limit, stays_in_limit, final_amount}
 use Rattle.values.specs.declared.parts.AccountHead.{AccountHead}
 use Rattle.values.specs.declared.parts.OpenAccount.{OpenAccount}
 use Rattle.records.specs.Checks.{judged, tested, digits, spaces, date, currency, common_concept, key, modality, is_currency}
@@ -13,7 +13,7 @@ use Rattle.records.specs.Rules.{account_checks, origin_checks, movement_checks}
 use Rattle.records.specs.Values.{number_at, key_at, account_in}
 use Rattle.records.proofs.Holding.{split, movement_limits}
 use Rattle.reading.specs.Offers.{checks}
-use Rattle.reading.specs.Taken.{begun, account_after}
+use Rattle.reading.specs.Taken.{account_after}
 use Rattle.reading.specs.declared.kinds.Kind.{Kind}
 use Rattle.reading.specs.declared.kinds.Kind.TheVariants.{Account, Movement, Text, Equivalent, AccountEnd, FileEnd}
 use Rattle.reading.proofs.Steps.{Limits}

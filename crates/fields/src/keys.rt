@@ -6,8 +6,8 @@ use crate::digits::UnknownDigit;
 /// The side of an amount: a debit is taken from the account, a credit is paid in.
 #[derive(Clone, Copy, PartialEq, Eq, Debug)]
 pub enum Key {
-    Debit,
-    Credit,
+    Debit = 1,
+    Credit = 2,
 }
 
 /// The key that a digit stands for.
@@ -30,9 +30,6 @@ impl From<Key> for u64 {
     ghost from_gives = { λ key digit. (digit ≡ key_digit key) × (key_of digit ≡ Some key) };
 
     fn from(key: Key) -> u64 {
-        match key {
-            Key::Debit => 1,
-            Key::Credit => 2,
-        }
+        key as u64
     }
 }

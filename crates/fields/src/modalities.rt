@@ -6,9 +6,9 @@ use crate::digits::UnknownDigit;
 /// The modality of a statement: how much it tells of each movement.
 #[derive(Clone, Copy, PartialEq, Eq, Debug)]
 pub enum Modality {
-    First,
-    Second,
-    Third,
+    First = 1,
+    Second = 2,
+    Third = 3,
 }
 
 /// The modality that a digit stands for.
@@ -32,10 +32,6 @@ impl From<Modality> for u64 {
     ghost from_gives = { λ modality digit. (digit ≡ modality_digit modality) × (modality_of digit ≡ Some modality) };
 
     fn from(modality: Modality) -> u64 {
-        match modality {
-            Modality::First => 1,
-            Modality::Second => 2,
-            Modality::Third => 3,
-        }
+        modality as u64
     }
 }

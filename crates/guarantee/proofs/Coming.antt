@@ -3,6 +3,7 @@ use Rattle.std.proofs.Common.{◌≡◌, ℕ, ◌+◌, ◌≤◌, cond, List, []
 use Rattle.std.specs.List.{flat_map, AllByRecursion}
 use Rattle.std.proofs.lemmas.List.{append_assoc, length-append}
 use Rattle.std.proofs.lemmas.Bool.{lt-ltb}
+use Rattle.values.specs.Balances.{begun}
 use Rattle.values.specs.declared.parts.OpenAccount.{OpenAccount}
 use Rattle.records.specs.Rules.{account_checks, movement_checks, text_checks, equivalent_checks, account_end_checks, file_end_checks}
 use Rattle.records.specs.Values.{account_in}
@@ -10,7 +11,7 @@ use Rattle.reading.specs.Kinds.{last_number}
 use Rattle.reading.specs.Limits.{texts_of}
 use Rattle.reading.specs.Offers.{checks}
 use Rattle.reading.specs.Phases.{next}
-use Rattle.reading.specs.Taken.{begun, account_after}
+use Rattle.reading.specs.Taken.{account_after}
 use Rattle.reading.specs.declared.kinds.Kind.{Kind}
 use Rattle.reading.specs.declared.kinds.Kind.TheVariants as kind
 use Rattle.reading.specs.declared.phases.Phase.{Phase}

@@ -1,11 +1,12 @@
 -- Every reading can be finished: by the end of its account and of the file. Assumes nothing.
 use Rattle.std.proofs.Common.{ℕ, ◌+◌, ◌≤◌, List, [], ◌∷◌, refl, arith}
+use Rattle.values.specs.Balances.{begun}
 use Rattle.values.specs.declared.parts.OpenAccount.{OpenAccount}
 use Rattle.records.specs.Values.{account_in}
 use Rattle.reading.specs.Kinds.{last_number}
 use Rattle.reading.specs.Limits.{texts_of}
 use Rattle.reading.specs.Offers.{checks}
-use Rattle.reading.specs.Taken.{begun, account_after}
+use Rattle.reading.specs.Taken.{account_after}
 use Rattle.reading.specs.declared.kinds.Kind.{Kind}
 use Rattle.reading.specs.declared.kinds.Kind.TheVariants as kind
 use Rattle.reading.specs.declared.phases.Phase.{Phase}

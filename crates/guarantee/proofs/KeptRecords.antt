@@ -9,7 +9,7 @@ use Rattle.fields.specs.Decimal.{all_digits}
 use Rattle.fields.specs.declared.keys.Key.{Key}
 use Rattle.fields.specs.declared.keys.Key.TheVariants.{Debit, Credit}
 use Rattle.fields.specs.declared.modalities.Modality.{Modality}
-use Rattle.values.specs.Balances.{most, debit_of, credit_of, balances, owed_to, owed_by, counts_in_limit, stays_in_limit}
+use Rattle.values.specs.Balances.{begun, most, debit_of, credit_of, balances, owed_to, owed_by, counts_in_limit, stays_in_limit}
 use Rattle.values.specs.declared.parts.AccountHead.{AccountHead}
 use Rattle.values.specs.declared.parts.OpenAccount.{OpenAccount}
 use Rattle.values.specs.declared.parts.Turnover.{Turnover}
@@ -22,7 +22,6 @@ use Rattle.records.proofs.Holding.{split, held}
 use Rattle.records.proofs.Judging.{pass}
 use Rattle.composing.specs.Layouts.{movement_layout, account_end_layout, file_end_layout}
 use Rattle.composing.specs.Parts.{Part, composed}
-use Rattle.reading.specs.Taken.{begun}
 use Rattle.reading.specs.declared.kinds.Kind.TheVariants.{Account as AccountKind, Movement as MovementKind, Text, Equivalent as EquivalentKind, AccountEnd, FileEnd}
 use Rattle.rows.specs.Kept.{texts_of}
 use Rattle.recalling.specs.Checking.{made_or_none, record_of}

@@ -2,7 +2,7 @@
 use Rattle.std.proofs.Common.{◌≡◌, ℕ, suc, ◌+◌, ◌<◌, ◌≤◌, List, [], ◌∷◌, length, Some, None, Option, refl, ap, ◌∙◌, arith, length-append}
 use Rattle.std.proofs.lemmas.Bool.{lt-ltb}
 use Rattle.fields.specs.declared.modalities.Modality.{Modality}
-use Rattle.media.specs.declared.carriers.Ending.{Ending}
+use Rattle.media.specs.Endings.{Ending}
 use Rattle.records.specs.Checks.{columns}
 use Rattle.records.specs.Values.{key_at, account_in, movement_in, equivalent_in}
 use Rattle.reading.specs.Offers.{kind_in}
@@ -13,7 +13,8 @@ use Rattle.table.proofs.Filling.{length-revised}
 use Rattle.rows.specs.Kept.{Rows}
 use Rattle.rows.specs.declared.tables.TableKind.{TableKind}
 use Rattle.rows.specs.declared.tables.TableKind.TheVariants.{Accounts, Movements, Texts}
-use Rattle.archiving.specs.Entering.{Room, account_row, movement_row, text_row, one_movement_more, one_text_more, converted_to, ended_with, entered_as, full, lacking}
+use Rattle.rows.specs.Tables.{Room}
+use Rattle.archiving.specs.Entering.{account_row, movement_row, text_row, one_movement_more, one_text_more, converted_to, ended_with, entered_as, full, lacking}
 use Rattle.archiving.specs.Reads.{of_kind, entered, crowded, unless_taken, stopping, at_end, unless_stopped, outcome}
 use Rattle.guarantee.proofs.KeptChecks.{Accepted}
 use Rattle.guarantee.proofs.KeptRows.{after_all, entered_all}

@@ -1,13 +1,13 @@
 -- What comes of reading the records of a holding, one by one. Assumes nothing.
 use Rattle.std.proofs.Common.{◌≡◌, ℕ, ◌+◌, List, [], ◌∷◌, ◌++◌, length, Some, None, Err, Option, sym, refl, ap, ◌∙◌, subst, append_assoc, append-nil, arith}
 use Rattle.std.specs.Option.{option_map}
-use Rattle.media.specs.declared.carriers.Ending.{Ending}
+use Rattle.media.specs.Endings.{Ending}
 use Rattle.reading.specs.Offers.{cause_of}
 use Rattle.reading.specs.Progress.{Progress, refused, after}
 use Rattle.reading.specs.declared.refusals.Cause.{Cause}
 use Rattle.reading.specs.declared.refusals.Refusal.{Refusal}
 use Rattle.rows.specs.Kept.{Rows}
-use Rattle.archiving.specs.Entering.{Room}
+use Rattle.rows.specs.Tables.{Room}
 use Rattle.archiving.specs.Reads.{entered, crowded, unless_taken, stopping, unless_stopped, outcome}
 use Rattle.archiving.specs.declared.refusals.ReadRefusal.TheVariants.{Reading}
 use Rattle.guarantee.specs.Files.{CorrectFile, Begins}

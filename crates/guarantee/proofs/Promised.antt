@@ -1,9 +1,9 @@
 -- The main promises from those of each call. Assumes nothing.
 use Rattle.std.proofs.Common.{◌≡◌, ℕ, ◌≤◌, List, length, Option, Result, sym, ◌∙◌}
 use Rattle.reading.specs.declared.refusals.Refusal.{Refusal}
-use Rattle.media.specs.declared.carriers.Ending.{Ending}
+use Rattle.media.specs.Endings.{Ending}
 use Rattle.rows.specs.Kept.{Rows}
-use Rattle.archiving.specs.Entering.{Room}
+use Rattle.rows.specs.Tables.{Room}
 use Rattle.archiving.specs.declared.reads.Counts.{Counts}
 use Rattle.archiving.specs.declared.refusals.ReadRefusal.{ReadRefusal}
 use Rattle.guarantee.specs.Files.{CorrectFile}

@@ -3,12 +3,11 @@ use Rattle.std.proofs.Common.{◌≡◌, ℕ, ◌+◌, true, leb, ◌↔◌, Lis
 use Rattle.std.proofs.lemmas.Bool.{lt-ltb, le-leb, leb-true, and_parts, and_from}
 use Rattle.fields.specs.declared.keys.Key.{Key}
 use Rattle.fields.specs.declared.keys.Key.TheVariants.{Debit, Credit}
-use Rattle.values.specs.Balances.{most, debit_of, credit_of, turned, balances, owed_to, owed_by, counts_in_limit, stays_in_limit}
+use Rattle.values.specs.Balances.{begun, most, debit_of, credit_of, turned, balances, owed_to, owed_by, counts_in_limit, stays_in_limit}
 use Rattle.values.specs.declared.parts.AccountHead.{AccountHead}
 use Rattle.values.specs.declared.parts.OpenAccount.{OpenAccount}
 use Rattle.values.specs.declared.parts.Turnover.{Turnover}
 use Rattle.records.specs.Values.{key_at, number_at}
-use Rattle.reading.specs.Taken.{begun}
 use Rattle.reading.proofs.Steps.{Limits}
 use Rattle.guarantee.specs.Files.{Movement, debits_of, credits_of, turned_over, Balanced, InLimits}
 use Rattle.guarantee.proofs.Keeping.{Limited}

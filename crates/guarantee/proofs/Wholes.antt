@@ -1,15 +1,14 @@
 -- Reads and writes of whole files. Assumes nothing.
 use Rattle.std.proofs.Common.{◌≡◌, ℕ, ◌+◌, ◌≤◌, true, ◌↔◌, List, [], ◌∷◌, ◌++◌, length, is_ok, Some, None, Ok, Err, Option, Result, sym, refl, ap, ◌∙◌, subst, append-nil, arith, length-append}
 use Rattle.std.proofs.lemmas.Bool.{false≢true, le-leb}
-use Rattle.media.specs.declared.carriers.Ending.{Ending}
-use Rattle.media.specs.declared.carriers.Ending.TheVariants.{Clean, Broken}
+use Rattle.media.specs.Endings.{Ending}
 use Rattle.reading.specs.Progress.{Progress, at_start, refused}
 use Rattle.reading.specs.Taken.{closing, unfinished}
 use Rattle.reading.specs.declared.phases.Phase.{Phase}
 use Rattle.reading.specs.declared.phases.Phase.TheVariants.{Start, Between, Opened, Texts, Converted, Ended}
 use Rattle.reading.specs.declared.refusals.Refusal.{Refusal}
 use Rattle.rows.specs.Kept.{Rows, no_rows}
-use Rattle.archiving.specs.Entering.{Room}
+use Rattle.rows.specs.Tables.{Room}
 use Rattle.archiving.specs.Reads.{Outcome, closed, at_end, read_of}
 use Rattle.archiving.specs.declared.reads.Counts.{Counts}
 use Rattle.archiving.specs.declared.refusals.ReadRefusal.{ReadRefusal}
@@ -49,13 +48,13 @@ not_granted Converted n h = refl
 not_granted Ended n h = absurd (h refl)
 
 -- an answer at the end that is a success
-ended_well : (p : Progress) (t : Rows) (e : Ending) → is_ok (at_end p t e) ≡ true → (closing p.phase p.taken ≡ Ok tt) × (e ≡ Clean)
-ended_well p t (Broken f) h = absurd (false≢true h)
-ended_well p t Clean h = go (closing p.phase p.taken) refl h
+ended_well : (p : Progress) (t : Rows) (e : Ending) → is_ok (at_end p t e) ≡ true → (closing p.phase p.taken ≡ Ok tt) × (e ≡ Ok tt)
+ended_well p t (Err f) h = absurd (false≢true h)
+ended_well p t (Ok tt) h = (go (closing p.phase p.taken) h, refl)
   where
-    go : (x : Result (Unit {0}) Refusal) → closing p.phase p.taken ≡ x → is_ok (closed t x) ≡ true → (closing p.phase p.taken ≡ Ok tt) × (Clean ≡ Clean)
-    go (Ok tt) k h = (k, refl)
-    go (Err refusal) k h = absurd (false≢true h)
+    go : (x : Result (Unit {0}) Refusal) → is_ok (closed t x) ≡ true → x ≡ Ok tt
+    go (Ok tt) h = refl
+    go (Err refusal) h = absurd (false≢true h)
 
 module _ (room : Room) (records : List (List ℕ)) (e : Ending) (each : RowForEach room records) where
   room_for : (l : List (List ℕ)) → length l ≤ length records → RoomFor room no_rows (length l)
@@ -73,17 +72,17 @@ module _ (room : Room) (records : List (List ℕ)) (e : Ending) (each : RowForEa
   at_refused before o behind split taken refusal stops =
       ap (λ l. read_of room l e) split ∙ stopped_at room at_start no_rows before o behind e refusal taken (room_for before (omega (arith, ap length split, length-append before (o ∷ behind)))) stops
 
-  granted : CorrectFile records → e ≡ Clean → is_ok (read_of room records e).answer ≡ true
+  granted : CorrectFile records → e ≡ Ok tt → is_ok (read_of room records e).answer ≡ true
   granted c clean =
       let taken = accepted records (file_begins records c) in
       let p = after_all at_start records in
       let t = entered_all at_start no_rows records in
       ap is_ok (at_the_end taken ∙ (ap (at_end p t) clean ∙ ap (closed t) ((close_correct (standing records taken)).1 c)))
 
-  correct : is_ok (read_of room records e).answer ≡ true → CorrectFile records × (e ≡ Clean)
+  correct : is_ok (read_of room records e).answer ≡ true → CorrectFile records × (e ≡ Ok tt)
   correct h = go (offered at_start records)
     where
-      go : Offered at_start records → CorrectFile records × (e ≡ Clean)
+      go : Offered at_start records → CorrectFile records × (e ≡ Ok tt)
       go (all_taken taken) =
           let w = ended_well (after_all at_start records) (entered_all at_start no_rows records) e (ap is_ok (sym (at_the_end taken)) ∙ h) in
           ((close_correct (standing records taken)).0 w.0, w.1)

@@ -1,10 +1,9 @@
 -- What reads and writes of whole files promise, over the meanings of carriers and outputs. Assumes nothing.
 use Rattle.std.specs.Prelude.{◌≡◌, ℕ, ◌+◌, ◌≤◌, true, ◌↔◌, List, [], ◌∷◌, ◌++◌, length, is_ok, Ok, Err, Result}
-use Rattle.media.specs.declared.carriers.Ending.{Ending}
-use Rattle.media.specs.declared.carriers.Ending.TheVariants.{Clean, Broken}
+use Rattle.media.specs.Endings.{Ending}
 use Rattle.media.specs.declared.carriers.Fault.{Fault}
 use Rattle.reading.specs.declared.refusals.Cause.TheVariants.{Unfinished}
-use Rattle.archiving.specs.Entering.{Room}
+use Rattle.rows.specs.Tables.{Room}
 use Rattle.archiving.specs.declared.reads.Counts.{Counts}
 use Rattle.archiving.specs.declared.refusals.ReadRefusal.{ReadRefusal}
 use Rattle.archiving.specs.declared.refusals.ReadRefusal.TheVariants.{Carrier, Reading, NoRow}
@@ -41,10 +40,10 @@ early_end n = Err (Reading (record { cause = Unfinished; «record» = n }))
 -- the read succeeds exactly on a correct file with a clean end; otherwise it names the first wrong record, failing one the
 -- carrier's fault, failing that the early end, and draws nothing after it
 pub record ReadsWhole (records : List (List ℕ)) (e : Ending) (r : Result Counts ReadRefusal) (left : List (List ℕ)) : Type 0 where
-  pub succeeds : (is_ok r ≡ true) ↔ (CorrectFile records × (e ≡ Clean))
+  pub succeeds : (is_ok r ≡ true) ↔ (CorrectFile records × (e ≡ Ok tt))
   pub wrong : (w : FirstWrong records) → NamesRecord (length w.before + 1) r × (left ≡ w.behind)
-  pub fault : Begins records → (f : Fault) → e ≡ Broken f → r ≡ Err (Carrier f (length records + 1))
-  pub early : Begins records → (CorrectFile records → ⊥) → e ≡ Clean → r ≡ early_end (length records + 1)
+  pub fault : Begins records → (f : Fault) → e ≡ Err f → r ≡ Err (Carrier f (length records + 1))
+  pub early : Begins records → (CorrectFile records → ⊥) → e ≡ Ok tt → r ≡ early_end (length records + 1)
   pub drawn : Begins records → left ≡ []
 
 -- what was read is written back: to the records put before, with a place for each, exactly those are added

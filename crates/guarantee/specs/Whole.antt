@@ -1,10 +1,10 @@
 -- The main promises, whole, and what an audit leaves. Assumes nothing.
 use Rattle.std.specs.Prelude.{◌≡◌, ℕ, ◌≤◌, true, ◌↔◌, List, length, is_ok, Option, Result}
 use Rattle.reading.specs.declared.refusals.Refusal.{Refusal}
-use Rattle.media.specs.declared.carriers.Ending.{Ending}
+use Rattle.media.specs.Endings.{Ending}
 use Rattle.rows.specs.Kept.{Rows}
-use Rattle.archiving.specs.Entering.{Room}
-use Rattle.archiving.specs.Filling.{Tables, room_in, Holds}
+use Rattle.rows.specs.Tables.{Room, room_in, Holds}
+use Rattle.rows.specs.declared.archive.Tables.{Tables}
 use Rattle.archiving.specs.Reads.{read_of}
 use Rattle.archiving.specs.declared.reads.Counts.{Counts}
 use Rattle.archiving.specs.declared.refusals.ReadRefusal.{ReadRefusal}

@@ -1,7 +1,7 @@
 ghost use Rattle.std.specs.Prelude.{◌≡◌, length};
 ghost use Rattle.table.specs.Rows.{held, Fills};
 ghost use Rattle.recalling.specs.Writing.{writing, Written};
-ghost use Rattle.archiving.specs.Filling.{tables, rows_in, room_in};
+ghost use Rattle.rows.specs.Tables.{rows_in, room_in};
 ghost use Rattle.guarantee.specs.Whole.{Promises, ReadLeaves};
 
 use crate::holdings::{read, write};
@@ -10,7 +10,7 @@ use archiving::{Counts, ReadRefusal};
 use media::{Carrier, Output};
 use reading::Refusal;
 use recalling::WriteRefusal;
-use rows::{AccountRow, MovementRow, Statement, TextRow};
+use rows::Tables;
 use table::{Full, Table};
 
 /// What came of an audit: of the calls, of the two reads and of the write.
@@ -28,31 +28,22 @@ pub fn audit<C: Carrier, D: Carrier, O: Output>(
     calls: &[Call<'_>],
     answers: &mut Table<'_, Option<Refusal>>,
     first: &mut C,
-    accounts: &mut Table<'_, AccountRow>,
-    movements: &mut Table<'_, MovementRow>,
-    texts: &mut Table<'_, TextRow>,
+    tables: &mut Tables<'_>,
     second: &mut D,
-    more_accounts: &mut Table<'_, AccountRow>,
-    more_movements: &mut Table<'_, MovementRow>,
-    more_texts: &mut Table<'_, TextRow>,
+    more_tables: &mut Tables<'_>,
     output: &mut O,
 ) -> Audited
-    ensures promises { Promises calls.now (length answers.old.rows.now) (held answers.new.rows.now answers.new.filled) (room_in (tables accounts.old movements.old texts.old)) (room_in (tables more_accounts.old more_movements.old more_texts.old)) (C.Carrier.records first.old) (D.Carrier.records second.old) (C.Carrier.ending first.old) (D.Carrier.ending second.old) (C.Carrier.records first.new) (D.Carrier.records second.new) (rows_in (tables accounts.new movements.new texts.new)) (rows_in (tables more_accounts.new more_movements.new more_texts.new)) (O.Output.put output.old) (O.Output.places output.old) (O.Output.put output.new) result }
-    ensures first { ReadLeaves (tables accounts.old movements.old texts.old) (tables accounts.new movements.new texts.new) (C.Carrier.records first.old) (C.Carrier.ending first.old) (C.Carrier.records first.new) result.first }
-    ensures second { ReadLeaves (tables more_accounts.old more_movements.old more_texts.old) (tables more_accounts.new more_movements.new more_texts.new) (D.Carrier.records second.old) (D.Carrier.ending second.old) (D.Carrier.records second.new) result.second }
-    ensures written { result.written ≡ writing (rows_in (tables accounts.new movements.new texts.new)) (O.Output.places output.old) }
-    ensures output { Written (rows_in (tables accounts.new movements.new texts.new)) (O.Output.put output.old) (O.Output.places output.old) (O.Output.put output.new) (O.Output.places output.new) result.written }
+    ensures promises { Promises calls.now (length answers.old.rows.now) (held answers.new.rows.now answers.new.filled) (room_in tables.old) (room_in more_tables.old) (C.Carrier.records first.old) (D.Carrier.records second.old) (C.Carrier.ending first.old) (D.Carrier.ending second.old) (C.Carrier.records first.new) (D.Carrier.records second.new) (rows_in tables.new) (rows_in more_tables.new) (O.Output.put output.old) (O.Output.places output.old) (O.Output.put output.new) result }
+    ensures first { ReadLeaves tables.old tables.new (C.Carrier.records first.old) (C.Carrier.ending first.old) (C.Carrier.records first.new) result.first }
+    ensures second { ReadLeaves more_tables.old more_tables.new (D.Carrier.records second.old) (D.Carrier.ending second.old) (D.Carrier.records second.new) result.second }
+    ensures written { result.written ≡ writing (rows_in tables.new) (O.Output.places output.old) }
+    ensures output { Written (rows_in tables.new) (O.Output.put output.old) (O.Output.places output.old) (O.Output.put output.new) (O.Output.places output.new) result.written }
     ensures answers { Fills answers.old.rows.now answers.new.rows.now answers.new.filled (held answers.new.rows.now answers.new.filled) }
 {
     let ran = run(calls, answers);
-    let first = read(first, accounts, movements, texts);
-    let second = read(second, more_accounts, more_movements, more_texts);
-    let statement = Statement {
-        accounts: accounts.rows(),
-        movements: movements.rows(),
-        texts: texts.rows(),
-    };
-    let written = write(&statement, output);
+    let first = read(first, tables);
+    let second = read(second, more_tables);
+    let written = write(&tables.statement(), output);
     Audited {
         ran,
         first,

@@ -21,9 +21,6 @@ pub record Midway (rs left put put' : List (List ℕ)) (places places' : ℕ) : 
   pub so_far : put' ≡ put ++ taken
   pub used : places' + length taken ≡ places
 
-pub start : (rs put : List (List ℕ)) (places : ℕ) → Midway rs rs put put places places
-start rs put places = record { taken = []; split = refl; so_far = sym (append-nil put); used = omega arith }
-
 module _ {rs rest put put' : List (List ℕ)} {places places' : ℕ} (m : Midway rs rest put put' places places') where
   -- one record more
   pub more : (r : List ℕ) (left put'' : List (List ℕ)) (places'' : ℕ) → rest ≡ r ∷ left → put'' ≡ put' ++ (r ∷ []) → places'' + 1 ≡ places' → Midway rs left put put'' places places''

@@ -1,5 +1,5 @@
 -- The records of a volume, one place on, and what each of them is. Assumes nothing.
-use Rattle.std.proofs.Common.{◌≡◌, ℕ, zero, suc, ◌+◌, ◌≤◌, Bool, true, false, cond, ◌&&◌, eqb, ltb, List, [], ◌∷◌, length, take, drop, is_some, Some, None, Ok, Err, Option, Result, unwrap_or, refl, ap, ◌∙◌, subst, arith, length-drop, length-take}
+use Rattle.std.proofs.Common.{◌≡◌, ℕ, zero, suc, ◌+◌, ◌≤◌, Bool, true, false, cond, ◌&&◌, eqb, ltb, List, [], ◌∷◌, length, take, drop, is_some, Some, None, Ok, Err, Option, unwrap_or, refl, ap, ◌∙◌, subst, arith, length-drop, length-take}
 use lib.ListN.{length-map}
 use Rattle.std.specs.Str.{bytes_eq}
 use Rattle.std.proofs.lemmas.List.{drop-drop}
@@ -8,13 +8,11 @@ use Rattle.charset.specs.Characters.{is_character}
 use Rattle.charset.specs.Tables.{decoded}
 use Rattle.charset.specs.declared.code_table.CodeTable.{CodeTable}
 use Rattle.charset.proofs.Tables.{decoded_character}
-use Rattle.media.specs.Bytes.{Contents, told, standing, read_all, before, contents_in, contents}
-use Rattle.media.specs.Meaning.{all_characters, is_record, none_drawn, Draws}
+use Rattle.media.specs.Bytes.{Contents, standing, read_all, before, contents_in, contents}
+use Rattle.media.specs.Meaning.{all_characters, is_record, Draws}
 use Rattle.media.specs.Translation.{translated, first_without}
 use Rattle.media.specs.Frames.{line_end, stride}
 use Rattle.media.specs.declared.framing.Framing.{Framing}
-use Rattle.media.specs.Endings.{Ending}
-use Rattle.media.specs.declared.volumes.VolumeFault.{VolumeFault}
 use Rattle.media.specs.declared.volumes.VolumeFault.TheVariants.{Frame}
 
 module _ (f : Framing) (t : CodeTable) where
@@ -70,22 +68,9 @@ module _ (f : Framing) (t : CodeTable) where
 draws_front : (c later : Contents) (r into : List ℕ) → is_record r ≡ true → c ≡ before (Ok (Some r)) later → Draws c.records c.ending into later.records r (Ok true) × (later.ending ≡ c.ending)
 draws_front c later r into w e = rw e ((refl, refl, refl, w), refl)
 
-draws_end : (c : Contents) (e : Ending) (into : List ℕ) → c ≡ record { records = []; ending = e } → Draws c.records c.ending into c.records into (none_drawn e)
-draws_end c e into h = rw h (refl, refl, refl)
-
 module _ (f : Framing) (t : CodeTable) where
   pub drawn_record : (bytes : List ℕ) (p s : ℕ) (r into : List ℕ) → s ≡ stride f → standing f t (drop p bytes) p ≡ Ok (Some r) → Draws (contents f t (drop p bytes) p).records (contents f t (drop p bytes) p).ending into (contents f t (drop (p + s) bytes) (p + s)).records r (Ok true) × ((contents f t (drop (p + s) bytes) (p + s)).ending ≡ (contents f t (drop p bytes) p).ending)
   drawn_record bytes p s r into is there =
       let onward : contents f t (drop (stride f) (drop p bytes)) (p + stride f) ≡ contents f t (drop (p + s) bytes) (p + s) = rw (drop-drop (stride f) p bytes, is) in
       draws_front (contents f t (drop p bytes) p) (contents f t (drop (p + s) bytes) (p + s)) r into (stands_whole f t (drop p bytes) p r there).1
       (contents_step f t (drop p bytes) p ∙ (ap (λ x. before x (contents f t (drop (stride f) (drop p bytes)) (p + stride f))) there ∙ ap (before (Ok (Some r))) onward))
-
-  -- where none stands, the contents are the ending alone
-  ends : (rest : List ℕ) (p : ℕ) (x : Result (Option (List ℕ)) VolumeFault) → standing f t rest p ≡ x → contents f t rest p ≡ before x (contents f t (drop (stride f) rest) (p + stride f))
-  ends rest p x there = contents_step f t rest p ∙ ap (λ y. before y (contents f t (drop (stride f) rest) (p + stride f))) there
-
-  pub drawn_none : (rest : List ℕ) (p : ℕ) (into : List ℕ) → standing f t rest p ≡ Ok None → Draws (contents f t rest p).records (contents f t rest p).ending into (contents f t rest p).records into (Ok false)
-  drawn_none rest p into there = draws_end (contents f t rest p) (Ok tt) into (ends rest p (Ok None) there)
-
-  pub drawn_fault : (rest : List ℕ) (p : ℕ) (fault : VolumeFault) (into : List ℕ) → standing f t rest p ≡ Err fault → Draws (contents f t rest p).records (contents f t rest p).ending into (contents f t rest p).records into (Err (told fault))
-  drawn_fault rest p fault into there = draws_end (contents f t rest p) (Err (told fault)) into (ends rest p (Err fault) there)

@@ -1,5 +1,5 @@
 -- Bytes that are translated one after the other. Assumes nothing.
-use Rattle.std.proofs.Common.{◌≡◌, ℕ, suc, ◌+◌, ◌<◌, ◌≤◌, Bool, true, false, cond, List, [], ◌∷◌, ◌++◌, length, get_or, take, drop, set, is_some, Some, None, Option, unwrap_or, sym, refl, ap, ◌∙◌, add-one, arith, length-set}
+use Rattle.std.proofs.Common.{◌≡◌, ℕ, suc, ◌+◌, ◌<◌, ◌≤◌, Bool, true, false, cond, List, [], ◌∷◌, ◌++◌, length, get_or, take, drop, set, is_some, Some, None, Option, unwrap_or, sym, ap, ◌∙◌, add-one, arith, length-set}
 use Rattle.std.proofs.lemmas.List.{take_more_set, take_all, drop_all, drop_more, drop-set-lt, map_more}
 use Rattle.media.specs.Translation.{translated, first_without}
 
@@ -10,9 +10,6 @@ pub record Translated (t : ℕ → Option ℕ) (bs cs : List ℕ) (i : ℕ) : Ty
   pub later : drop i cs ≡ drop i bs
   pub whole : length bs ≡ 80
   pub long : length cs ≡ 80
-
-pub none : (t : ℕ → Option ℕ) (bs cs : List ℕ) → cs ≡ bs → length bs ≡ 80 → Translated t bs cs 0
-none t bs cs e w = record { unread = refl; front = refl; later = e; whole = w; long = ap length e ∙ w }
 
 module _ (t : ℕ → Option ℕ) (bs cs : List ℕ) (i : ℕ) (h : i < 80) (d : Translated t bs cs i) where
   inside : i < length bs

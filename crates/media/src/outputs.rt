@@ -5,9 +5,9 @@ ghost use Rattle.media.specs.Meaning.{putting, Puts, put_number};
 #[derive(Clone, Copy, PartialEq, Eq, Debug)]
 pub enum PutRefusal {
     /// It is not 80 characters.
-    NotARecord,
+    NotARecord = 23,
     /// No place is left for it.
-    NoPlace,
+    NoPlace = 24,
 }
 
 impl PutRefusal {
@@ -15,10 +15,7 @@ impl PutRefusal {
     pub fn number(self) -> u16
         ensures { result ≡ put_number self }
     {
-        match self {
-            PutRefusal::NotARecord => 23,
-            PutRefusal::NoPlace => 24,
-        }
+        self as u16
     }
 }
 

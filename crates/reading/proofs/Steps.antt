@@ -1,6 +1,6 @@
 -- The steps of an offer. Assumes nothing.
-use Rattle.std.proofs.Common.{◌≡◌, ℕ, ◌+◌, ◌<◌, ◌≤◌, Bool, true, false, cond, ltb, leb, List, length, Some, None, Option, sym, refl, ap, ◌∙◌, subst, arith}
-use Rattle.std.proofs.lemmas.Bool.{eq-eqb, le-leb, lt-leb, ltb-true, leb-true, and_parts}
+use Rattle.std.proofs.Common.{◌≡◌, ℕ, ◌+◌, ◌≤◌, Bool, true, false, cond, ltb, leb, List, length, Some, None, Option, refl, ap, ◌∙◌, subst, arith}
+use Rattle.std.proofs.lemmas.Bool.{eq-eqb, le-leb, ltb-true, leb-true, and_parts}
 use Rattle.fields.specs.declared.keys.Key.{Key}
 use Rattle.fields.specs.declared.keys.Key.TheVariants.{Debit, Credit}
 use Rattle.values.specs.Balances.{turned, counts_in_limit, stays_in_limit}
@@ -25,9 +25,6 @@ use Rattle.reading.specs.declared.refusals.Cause.TheVariants.{RecordLimit}
 module _ (phase after : Phase) (taken : ℕ) (a : OpenAccount) (o : List ℕ) (kind : Kind) (long : length o ≡ 80) (good : first_bad o 0 ≡ None) (is : kind_in o ≡ Some kind) (may : next phase kind ≡ Some after) where
   placed : cause_of phase taken a o ≡ cond (leb (taken + 1) (last_number kind)) (field_cause (judged (checks kind (texts_of phase) taken a) o)) (Some RecordLimit)
   placed = rw (eq-eqb (length o) 80 long, good, is, may) refl
-
-  pub past_limit : last_number kind < taken + 1 → Some RecordLimit ≡ cause_of phase taken a o
-  past_limit h = sym (placed ∙ rw (lt-leb (taken + 1) (last_number kind) h) refl)
 
   pub by_fields : taken + 1 ≤ last_number kind → cause_of phase taken a o ≡ field_cause (judged (checks kind (texts_of phase) taken a) o)
   by_fields h = placed ∙ rw (le-leb (taken + 1) (last_number kind) h) refl

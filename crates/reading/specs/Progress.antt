@@ -1,12 +1,11 @@
 -- How far a reading has come, and how each record moves it on. Assumes nothing.
 use Rattle.std.specs.Prelude.{ℕ, ◌+◌, List, Some, None, Option}
 use Rattle.std.specs.Option.{option_map}
-use Rattle.fields.specs.declared.keys.Key.TheVariants.{Debit}
-use Rattle.fields.specs.declared.modalities.Modality.TheVariants.{First}
+use Rattle.values.specs.Balances.{begun}
 use Rattle.values.specs.declared.parts.OpenAccount.{OpenAccount}
 use Rattle.reading.specs.Offers.{kind_in, cause_of}
 use Rattle.reading.specs.Phases.{next}
-use Rattle.reading.specs.Taken.{begun, account_after}
+use Rattle.reading.specs.Taken.{no_head, account_after}
 use Rattle.reading.specs.declared.kinds.Kind.{Kind}
 use Rattle.reading.specs.declared.phases.Phase.{Phase}
 use Rattle.reading.specs.declared.phases.Phase.TheVariants.{Start}
@@ -27,13 +26,7 @@ unfoldable pub at_start : Progress
 at_start = record {
   phase = Start;
   taken = 0;
-  account = begun (record {
-    number = record { entity = 0; office = 0; number = 0 };
-    period = record { first = record { digits = 0 }; last = record { digits = 0 } };
-    initial = record { key = Debit; amount = 0 };
-    currency = 0;
-    modality = First;
-  });
+  account = begun no_head;
 }
 
 -- why a record is refused here, if it is, with its number

@@ -3,7 +3,7 @@ use Rattle.std.specs.Prelude.{◌≡◌, ℕ, ◌+◌, true, List, Some, Ok, Err
 use Rattle.std.specs.Option.{option_map}
 use Rattle.fields.specs.declared.keys.Key.TheVariants.{Debit}
 use Rattle.fields.specs.declared.modalities.Modality.TheVariants.{First}
-use Rattle.values.specs.Balances.{turned, counts_in_limit, stays_in_limit}
+use Rattle.values.specs.Balances.{begun, turned, counts_in_limit, stays_in_limit}
 use Rattle.records.specs.Checks.{columns}
 use Rattle.records.specs.Values.{number_at, key_at, account_in, movement_in, equivalent_in, account_end_in}
 use Rattle.values.specs.declared.parts.AccountHead.{AccountHead}
@@ -37,10 +37,6 @@ Tells a o (entry.Text sequence one two) = (sequence ≡ number_at 3 4 o) × (one
 Tells a o (entry.Equivalent equivalent) = equivalent ≡ equivalent_in o
 Tells a o (entry.AccountEnd end) = end ≡ account_end_in o
 Tells a o (entry.FileEnd records) = records ≡ number_at 21 26 o
-
--- an account that has just begun
-abbrev pub begun : AccountHead → OpenAccount
-begun head = record { head = head; debits = record { count = 0; total = 0 }; credits = record { count = 0; total = 0 } }
 
 -- the account that is open after a record of a kind
 abbrev pub account_after : OpenAccount → List ℕ → Kind → OpenAccount
@@ -83,17 +79,21 @@ account_with a (entry.FileEnd records) = a
 abbrev pub refusal_of : Reading → List ℕ → Option Refusal
 refusal_of s o = option_map (λ cause. record { cause = cause; «record» = s.taken + 1 }) (cause_of s.phase s.taken s.account o)
 
+-- what stands for the head of the open account before one has begun
+abbrev pub no_head : AccountHead
+no_head = record {
+  number = record { entity = 0; office = 0; number = 0 };
+  period = record { first = record { digits = 0 }; last = record { digits = 0 } };
+  initial = record { key = Debit; amount = 0 };
+  currency = 0;
+  modality = First;
+}
+
 -- a reading just made
 pub record New (s : Reading) : Type 0 where
   pub at_start : s.phase ≡ Start
   pub none_taken : s.taken ≡ 0
-  pub no_account : s.account ≡ begun (record {
-    number = record { entity = 0; office = 0; number = 0 };
-    period = record { first = record { digits = 0 }; last = record { digits = 0 } };
-    initial = record { key = Debit; amount = 0 };
-    currency = 0;
-    modality = First;
-  })
+  pub no_account : s.account ≡ begun no_head
 
 -- the answer to a close: the file must have ended
 abbrev pub unfinished : ℕ → Result (Unit {0}) Refusal

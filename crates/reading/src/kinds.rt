@@ -1,4 +1,5 @@
-ghost use Rattle.std.specs.Prelude.{◌≡◌};
+ghost use Rattle.std.specs.Prelude.{◌≡◌, slice_index};
+ghost use Rattle.std.specs.Result.{result_ok};
 ghost use Rattle.reading.specs.Kinds.{kind_of, last_number};
 
 /// The six kinds of record.
@@ -12,22 +13,30 @@ pub enum Kind {
     FileEnd,
 }
 
-impl Kind {
-    /// The kind that a code of two characters names.
-    pub fn of_code(first: u8, second: u8) -> Option<Kind>
-        ensures { result ≡ kind_of first second }
-    {
-        match (first, second) {
-            (b'1', b'1') => Some(Kind::Account),
-            (b'2', b'2') => Some(Kind::Movement),
-            (b'2', b'3') => Some(Kind::Text),
-            (b'2', b'4') => Some(Kind::Equivalent),
-            (b'3', b'3') => Some(Kind::AccountEnd),
-            (b'8', b'8') => Some(Kind::FileEnd),
-            _ => None,
+/// A code that is none of the six.
+#[derive(Clone, Copy, PartialEq, Eq, Debug)]
+pub struct UnknownCode;
+
+/// The kind that a code of two characters names.
+impl TryFrom<[u8; 2]> for Kind {
+    type Error = UnknownCode;
+
+    ghost try_from_gives = { λ code result. result_ok result ≡ kind_of (slice_index code 0) (slice_index code 1) };
+
+    fn try_from(code: [u8; 2]) -> Result<Kind, UnknownCode> {
+        match code {
+            [b'1', b'1'] => Ok(Kind::Account),
+            [b'2', b'2'] => Ok(Kind::Movement),
+            [b'2', b'3'] => Ok(Kind::Text),
+            [b'2', b'4'] => Ok(Kind::Equivalent),
+            [b'3', b'3'] => Ok(Kind::AccountEnd),
+            [b'8', b'8'] => Ok(Kind::FileEnd),
+            _ => Err(UnknownCode),
         }
     }
+}
 
+impl Kind {
     /// The largest record number of a kind: there is always room for an account end and a file end.
     pub fn last_number(self) -> u32
         ensures { result ≡ last_number self }

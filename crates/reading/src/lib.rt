@@ -10,7 +10,7 @@ pub mod readings;
 pub mod refusals;
 
 pub use entries::Entry;
-pub use kinds::Kind;
+pub use kinds::{Kind, UnknownCode};
 pub use phases::Phase;
 pub use readings::Reading;
 pub use refusals::{Cause, Refusal, Told};

@@ -1,7 +1,8 @@
 ghost use Rattle.std.specs.Prelude.{◌≡◌};
 ghost use Rattle.reading.specs.Numbers.{told};
-ghost use Rattle.reading.specs.declared.refusals.Cause.TheVariants.{Field};
+ghost use Rattle.reading.specs.declared.refusals.Cause.TheVariants.{Code, Field};
 
+use crate::kinds::UnknownCode;
 use records::FieldRefusal;
 
 /// Why a record is not taken, or a reading not closed.
@@ -46,12 +47,20 @@ impl From<FieldRefusal> for Cause {
     }
 }
 
-impl Refusal {
-    /// What this refusal tells: each cause has its number, and its column or none.
-    pub fn told(self) -> Told
-        ensures { result ≡ told self }
-    {
-        let (number, column) = match self.cause {
+impl From<UnknownCode> for Cause {
+    ghost from_gives = { λ _ cause. cause ≡ Code };
+
+    fn from(_unknown: UnknownCode) -> Cause {
+        Cause::Code
+    }
+}
+
+/// What a refusal tells: each cause has its number, and its column or none.
+impl From<Refusal> for Told {
+    ghost from_gives = { λ refusal answer. answer ≡ told refusal };
+
+    fn from(refusal: Refusal) -> Told {
+        let (number, column) = match refusal.cause {
             Cause::Length => (1, 0),
             Cause::Character(column) => (2, column),
             Cause::Code => (3, 1),
@@ -62,7 +71,7 @@ impl Refusal {
         };
         Told {
             number,
-            record: self.record,
+            record: refusal.record,
             column,
         }
     }

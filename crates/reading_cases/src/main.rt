@@ -37,9 +37,9 @@ fn show_close(rt: &HostRuntime, reading: &Reading) -> io::Result<()> {
 
 fn name(entry: &Entry) -> &'static str {
     match entry {
-        Entry::Account(_, _) => "account",
-        Entry::Movement(_, _) => "movement",
-        Entry::Text(_, _, _) => "text",
+        Entry::Account(..) => "account",
+        Entry::Movement(..) => "movement",
+        Entry::Text(..) => "text",
         Entry::Equivalent(_) => "equivalent",
         Entry::AccountEnd(_) => "account end",
         Entry::FileEnd(_) => "file end",
@@ -51,6 +51,6 @@ fn show_refusal(rt: &HostRuntime, refusal: Refusal) -> io::Result<()> {
         number,
         record,
         column,
-    } = refusal.told();
+    } = Told::from(refusal);
     println!(rt; "refused {number}, record {record}, column {column}")
 }

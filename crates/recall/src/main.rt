@@ -68,7 +68,7 @@ fn tell_refusal(rt: &HostRuntime, refusal: Refusal) -> anyhow::Result<()> {
         number,
         record,
         column,
-    } = refusal.told();
+    } = Told::from(refusal);
     println!(rt; "refusal {number} at record {record}, column {column}")?;
     Ok(())
 }

@@ -3,7 +3,7 @@ use Rattle.std.proofs.Common.{◌≡◌, ℕ, suc, ◌+◌, Bool, true, false, c
 use Rattle.std.specs.Option.{option_map}
 use Rattle.std.specs.List.{AllByRecursion}
 use Rattle.std.proofs.lemmas.List.{length-append}
-use Rattle.std.proofs.lemmas.Bool.{false≢true, and_from}
+use Rattle.std.proofs.lemmas.Bool.{and_from}
 use Rattle.charset.specs.Characters.{is_character}
 use Rattle.media.specs.Meaning.{all_characters, is_record}
 use Rattle.composing.specs.Layouts.{file_end_layout}
@@ -73,8 +73,3 @@ checked t n h = go (counting t) (walked at_start (statement_records t)) refl h
         (fit_walked at_start (statement_records t) is, omega (arith, length-append (before_end t) (file_end_layout (length (before_end t)) ∷ [])))
     go (Ok _) (Some x) is k = absurd (let z : ◌≡◌ {A = ℕ} 0 1 = cc in omega arith)
     go (Err x) w is k = absurd (let z : ◌≡◌ {A = ℕ} 0 1 = cc in omega arith)
-
--- what is a record was composed
-pub composed_fit : (made : Result (List ℕ) Unfit) → is_record (made_or_none made) ≡ true → made ≡ Ok (made_or_none made)
-composed_fit (Ok r) h = refl
-composed_fit (Err e) h = absurd (false≢true h)

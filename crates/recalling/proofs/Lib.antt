@@ -1,4 +1,5 @@
 mod Capping
+mod Composing
 mod Counting
 pub mod Fitting
 mod Midway

@@ -1,5 +1,5 @@
 -- The records that are still to come while a statement is composed. Assumes nothing.
-use Rattle.std.specs.Prelude.{◌≡◌, ℕ, List, [], ◌∷◌, ◌++◌, drop, Some, None, Option, Result}
+use Rattle.std.specs.Prelude.{ℕ, List, ◌∷◌, ◌++◌, drop, map, Some, None, Option, Result}
 use Rattle.composing.specs.Layouts.{account_end_layout}
 use Rattle.composing.specs.Parts.{Part, composed}
 use Rattle.composing.specs.declared.refusals.Unfit.{Unfit}
@@ -11,11 +11,6 @@ use Rattle.recalling.specs.Statements.{text_records, equivalent_records, movemen
 use Rattle.recalling.specs.declared.attachments.Attachments.{Attachments}
 use Rattle.recalling.specs.declared.compositions.Begun.{Begun}
 use Rattle.recalling.specs.declared.compositions.Composition.{Composition}
-
--- the next record composed, and those still to come before and after it
-abbrev pub Yields : List (List Part) → List (List Part) → Option (Result (List ℕ) Unfit) → Type 0
-Yields before after None = (before ≡ []) × (after ≡ [])
-Yields before after (Some r) = (layout : List Part) × (before ≡ layout ∷ after) × (r ≡ composed layout)
 
 -- the texts and the equivalent of a movement that has begun
 abbrev pub attached : Attachments → List (List Part)
@@ -29,3 +24,10 @@ behind accounts movements texts (Some b) =
 
 unfoldable pub remaining : Composition → List (List Part)
 remaining c = attached c.attached ++ behind c.accounts.now c.movements.now c.texts.now c.begun
+
+-- what both iterators have left to yield: each layout composed
+abbrev pub attached_left : Attachments → List (Result (List ℕ) Unfit)
+attached_left a = map composed (attached a)
+
+abbrev pub left : Composition → List (Result (List ℕ) Unfit)
+left c = map composed (remaining c)

@@ -22,23 +22,18 @@ fn offer_composed(
     ensures after { OnOk result (progress reading.new ≡ after_record (progress reading.old) (made_or_none composed)) }
     ensures one_more { OnOk result ((progress reading.new).taken ≡ taken + 1) }
 {
-    match composed {
-        Ok(characters) => match reading.offer(&characters) {
-            Ok(_) => Ok(()),
-            Err(refusal) => Err(TableRefusal::Refused(refusal)),
-        },
-        Err(unfit) => Err(TableRefusal::Unfit(taken + 1, unfit.column)),
-    }
+    let characters = composed.map_err(|unfit| TableRefusal::Unfit(taken + 1, unfit.column))?;
+    reading.offer(&characters)?;
+    Ok(())
 }
 
 // Offers the records of a statement to a new reading: how many they are, or why one is not taken.
 fn offer_all(statement: &Statement) -> Result<u32, TableRefusal>
     ensures { result ≡ offering (rows_lent statement.now) }
 {
-    let mut composition = Composition::new(statement);
     let mut reading = Reading::new();
     let mut taken = 0;
-    while let Some(composed) = composition.next() {
+    for composed in Composition::new(statement) {
         offer_composed(&mut reading, taken, composed)?;
         taken += 1;
     }

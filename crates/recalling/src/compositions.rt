@@ -1,5 +1,6 @@
 ghost use Rattle.std.specs.Prelude.{◌≡◌, [], Some, None};
-ghost use Rattle.recalling.specs.Remaining.{Yields, attached as attached_records, remaining};
+ghost use Rattle.std.specs.Iterator.{YieldsFirst};
+ghost use Rattle.recalling.specs.Remaining.{attached_left, remaining, left};
 ghost use Rattle.recalling.specs.Statements.{before_end, rows_lent};
 
 use crate::account_ends::compose_end;
@@ -44,30 +45,26 @@ impl<'a> Composition<'a> {
     // The next account begins.
     fn begin(&mut self) -> Option<Result<[u8; 80], Unfit>>
         requires outside { self.old.begun ≡ None }
-        requires detached { attached_records self.old.attached ≡ [] }
-        ensures { Yields (remaining self.old) (remaining self.new) result }
+        requires detached { attached_left self.old.attached ≡ [] }
+        ensures { YieldsFirst left self.old result self.new }
     {
-        match self.accounts.split_first() {
-            Some((row, accounts)) => {
-                let (own, movements) = split_front(self.movements, row.movements);
-                self.accounts = accounts;
-                self.movements = movements;
-                self.begun = Some(Begun {
-                    row,
-                    own,
-                    left: own,
-                });
-                Some(compose_account(&row.head, &row.name))
-            }
-            None => None,
-        }
+        let (row, accounts) = self.accounts.split_first()?;
+        let (own, movements) = split_front(self.movements, row.movements);
+        self.accounts = accounts;
+        self.movements = movements;
+        self.begun = Some(Begun {
+            row,
+            own,
+            left: own,
+        });
+        Some(compose_account(&row.head, &row.name))
     }
 
     // The next movement of the account begins, or the account ends.
     fn go_on(&mut self, begun: Begun<'a>) -> Result<[u8; 80], Unfit>
         requires inside { self.old.begun ≡ Some begun }
-        requires detached { attached_records self.old.attached ≡ [] }
-        ensures { Yields (remaining self.old) (remaining self.new) (Some result) }
+        requires detached { attached_left self.old.attached ≡ [] }
+        ensures { YieldsFirst left self.old (Some result) self.new }
     {
         match begun.left.split_first() {
             Some((row, left)) => {
@@ -83,11 +80,20 @@ impl<'a> Composition<'a> {
             }
         }
     }
+}
+
+impl<'a> Iterator for Composition<'a> {
+    ghost use Rattle.std.specs.Iterator.{YieldsFirst, item_count};
+    ghost use Rattle.recalling.specs.Remaining.{left};
+
+    type Item = Result<[u8; 80], Unfit>;
+
+    ghost next_gives = { YieldsFirst left };
+
+    ghost remaining = { item_count left };
 
     /// Composes the next record, if one is still to come.
-    pub(crate) fn next(&mut self) -> Option<Result<[u8; 80], Unfit>>
-        ensures { Yields (remaining self.old) (remaining self.new) result }
-    {
+    fn next(&mut self) -> Option<Result<[u8; 80], Unfit>> {
         if let Some(composed) = self.attached.next() {
             return Some(composed);
         }

@@ -10,22 +10,14 @@ use rows::{AccountRow, MovementRow, Statement};
 fn movements_of(accounts: &[AccountRow]) -> u128
     ensures { result ≡ movements_of accounts.now }
 {
-    let mut count = 0;
-    for row in accounts {
-        count += u128::from(row.movements);
-    }
-    count
+    accounts.iter().map(|row| u128::from(row.movements)).sum()
 }
 
 // How many texts the movements have.
 fn texts_of(movements: &[MovementRow]) -> u128
     ensures { result ≡ texts_of movements.now }
 {
-    let mut count = 0;
-    for row in movements {
-        count += u128::from(row.texts);
-    }
-    count
+    movements.iter().map(|row| u128::from(row.texts)).sum()
 }
 
 /// Whether there are just as many movements and texts as their rows count.

@@ -6,5 +6,5 @@ pub(crate) fn split_front<T>(rows: &[T], count: u32) -> (&[T], &[T])
     ensures behind { result.1.now ≡ drop count rows.now }
     ensures few { length result.0.now < 2 ^ 32 }
 {
-    rows.split_at(rows.len().min(count as usize))
+    rows.split_at_checked(count as usize).unwrap_or((rows, &[]))
 }

@@ -1,8 +1,9 @@
 ghost use Rattle.std.specs.Prelude.{◌≡◌};
 ghost use Rattle.recalling.specs.Numbers.{table_notice, write_notice};
+ghost use Rattle.recalling.specs.declared.refusals.TableRefusal.TheVariants.{Refused};
 ghost use Rattle.recalling.specs.declared.refusals.WriteRefusal.TheVariants.{Tables};
 
-use reading::Refusal;
+use reading::{Refusal, Told};
 use rows::{Layer, Notice};
 
 /// Why tables are no statement.
@@ -35,17 +36,25 @@ impl From<TableRefusal> for WriteRefusal {
     }
 }
 
-impl TableRefusal {
-    /// What this refusal tells.
-    pub fn notice(self) -> Notice
-        ensures { result ≡ table_notice self }
-    {
-        let (layer, number, record, place) = match self {
+impl From<Refusal> for TableRefusal {
+    ghost from_gives = { λ refusal answer. answer ≡ Refused refusal };
+
+    fn from(refusal: Refusal) -> TableRefusal {
+        TableRefusal::Refused(refusal)
+    }
+}
+
+/// What a refusal of tables tells.
+impl From<TableRefusal> for Notice {
+    ghost from_gives = { λ refusal notice. notice ≡ table_notice refusal };
+
+    fn from(refusal: TableRefusal) -> Notice {
+        let (layer, number, record, place) = match refusal {
             TableRefusal::Movements => (Layer::Tables, 32, 0, 1),
             TableRefusal::Texts => (Layer::Tables, 32, 0, 2),
             TableRefusal::Unfit(record, column) => (Layer::Tables, 33, record, column),
             TableRefusal::Refused(refusal) => {
-                let told = refusal.told();
+                let told = Told::from(refusal);
                 (Layer::Reading, told.number, told.record, told.column)
             }
         };
@@ -59,13 +68,13 @@ impl TableRefusal {
     }
 }
 
-impl WriteRefusal {
-    /// What this refusal tells.
-    pub fn notice(self) -> Notice
-        ensures { result ≡ write_notice self }
-    {
-        match self {
-            WriteRefusal::Tables(refusal) => refusal.notice(),
+/// What a refusal to write tells.
+impl From<WriteRefusal> for Notice {
+    ghost from_gives = { λ refusal notice. notice ≡ write_notice refusal };
+
+    fn from(refusal: WriteRefusal) -> Notice {
+        match refusal {
+            WriteRefusal::Tables(refusal) => Notice::from(refusal),
             WriteRefusal::NoPlaces => Notice {
                 layer: Layer::Tables,
                 number: 34,

@@ -12,42 +12,26 @@ use media::Output;
 use rows::Statement;
 
 // Puts a composed record, for which there is a place.
-fn put_composed<O: Output>(
-    output: &mut O,
-    composed: Result<[u8; 80], Unfit>,
-) -> Result<(), WriteRefusal>
+fn put_composed<O: Output>(output: &mut O, composed: Result<[u8; 80], Unfit>)
     requires fit { is_record (made_or_none composed) ≡ true }
     requires place { 0 < O.Output.places output.old }
-    ensures done { result ≡ Ok tt }
     ensures put { O.Output.put output.new ≡ O.Output.put output.old ++ (made_or_none composed ∷ []) }
     ensures places { O.Output.places output.new + 1 ≡ O.Output.places output.old }
 {
-    match composed {
-        Ok(characters) => match output.put(&characters) {
-            Ok(()) => Ok(()),
-            Err(_) => Err(WriteRefusal::NoPlaces),
-        },
-        Err(_) => Err(WriteRefusal::NoPlaces),
-    }
+    output.put(&composed.unwrap()).unwrap();
 }
 
 // Puts the records of a statement that is checked, for which there are places.
-fn put_records<O: Output>(
-    statement: &Statement,
-    records: u32,
-    output: &mut O,
-) -> Result<(), WriteRefusal>
+fn put_records<O: Output>(statement: &Statement, records: u32, output: &mut O)
     requires checked { checking (rows_lent statement.now) ≡ Ok records }
     requires places { records ≤ O.Output.places output.old }
-    ensures done { result ≡ Ok tt }
     ensures put { O.Output.put output.new ≡ O.Output.put output.old ++ records_of (statement_records (rows_lent statement.now)) }
     ensures places { O.Output.places output.new + records ≡ O.Output.places output.old }
 {
-    let mut composition = Composition::new(statement);
-    while let Some(composed) = composition.next() {
-        put_composed(output, composed)?;
+    for composed in Composition::new(statement) {
+        put_composed(output, composed);
     }
-    put_composed(output, compose_file_end(records - 1))
+    put_composed(output, compose_file_end(records - 1));
 }
 
 /// Writes the tables to an output: how many records were put, or why they are not written. A refusal changes nothing.
@@ -60,6 +44,6 @@ pub fn write<O: Output>(statement: &Statement, output: &mut O) -> Result<u32, Wr
     if output.places() < records as usize {
         return Err(WriteRefusal::NoPlaces);
     }
-    put_records(statement, records, output)?;
+    put_records(statement, records, output);
     Ok(records)
 }

@@ -5,13 +5,13 @@ ghost use Rattle.records.specs.Numbers.{question_number};
 #[derive(Clone, Copy, PartialEq, Eq, Debug)]
 pub enum Question {
     /// Has it its form?
-    Form,
+    Form = 5,
     /// Is its value right by itself?
-    Value,
+    Value = 6,
     /// Does it agree with what came before?
-    Agreement,
+    Agreement = 7,
     /// Does a count, a total or the balance stay in its limit?
-    Limit,
+    Limit = 8,
 }
 
 /// The first question that a record fails, and the first column of its field.
@@ -26,11 +26,6 @@ impl Question {
     pub fn number(self) -> u16
         ensures { result ≡ question_number self }
     {
-        match self {
-            Question::Form => 5,
-            Question::Value => 6,
-            Question::Agreement => 7,
-            Question::Limit => 8,
-        }
+        self as u16
     }
 }

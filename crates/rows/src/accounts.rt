@@ -3,7 +3,7 @@ use values::{AccountHead, AccountNumber, Balance, Period};
 
 /// An account: what its record says, how many movements it has, and the key of its final balance, which is absent
 /// until its end has come.
-#[derive(Clone, Copy)]
+#[derive(Clone, Copy, PartialEq, Eq, Debug)]
 pub struct AccountRow {
     pub head: AccountHead,
     pub name: [u8; 26],

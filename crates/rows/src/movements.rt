@@ -2,7 +2,7 @@ use fields::{Date, Key};
 use values::{Equivalent, Movement};
 
 /// A movement: what its record says, how many texts it has, and its equivalent in another currency, where it has one.
-#[derive(Clone, Copy)]
+#[derive(Clone, Copy, PartialEq, Eq, Debug)]
 pub struct MovementRow {
     pub movement: Movement,
     pub reference_2: [u8; 16],

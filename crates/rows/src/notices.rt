@@ -5,11 +5,11 @@ ghost use Rattle.rows.specs.Layers.{layer_number};
 #[derive(Clone, Copy, PartialEq, Eq, Debug)]
 pub enum Layer {
     /// The carrier has a fault.
-    Carrier,
+    Carrier = 1,
     /// The reading refuses a record, or its close.
-    Reading,
+    Reading = 2,
     /// The tables, or the output that they are written to.
-    Tables,
+    Tables = 3,
 }
 
 impl Layer {
@@ -17,11 +17,7 @@ impl Layer {
     pub fn number(self) -> u8
         ensures { result ≡ layer_number self }
     {
-        match self {
-            Layer::Carrier => 1,
-            Layer::Reading => 2,
-            Layer::Tables => 3,
-        }
+        self as u8
     }
 }
 

@@ -7,7 +7,7 @@ use crate::texts::TextRow;
 
 /// The filled rows of the three tables of the archive. Each account has the next movements, and each movement the next texts, as many as
 /// its row says.
-#[derive(Clone, Copy)]
+#[derive(Clone, Copy, PartialEq, Eq, Debug)]
 pub struct Statement<'a> {
     pub accounts: &'a [AccountRow],
     pub movements: &'a [MovementRow],
@@ -17,9 +17,9 @@ pub struct Statement<'a> {
 /// One of the three tables.
 #[derive(Clone, Copy, PartialEq, Eq, Debug)]
 pub enum TableKind {
-    Accounts,
-    Movements,
-    Texts,
+    Accounts = 1,
+    Movements = 2,
+    Texts = 3,
 }
 
 impl TableKind {
@@ -27,10 +27,6 @@ impl TableKind {
     pub fn number(self) -> u8
         ensures { result ≡ table_number self }
     {
-        match self {
-            TableKind::Accounts => 1,
-            TableKind::Movements => 2,
-            TableKind::Texts => 3,
-        }
+        self as u8
     }
 }

@@ -1,5 +1,5 @@
 /// A text of a movement, in its two fields.
-#[derive(Clone, Copy)]
+#[derive(Clone, Copy, PartialEq, Eq, Debug)]
 pub struct TextRow {
     pub first: [u8; 38],
     pub second: [u8; 38],

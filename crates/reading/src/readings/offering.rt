@@ -1,10 +1,9 @@
-ghost use Rattle.std.specs.Prelude.{◌≡◌, ◌+◌, true, IfOk};
+ghost use Rattle.std.specs.Prelude.{◌≡◌, ◌+◌, IfOk};
 ghost use Rattle.std.specs.Result.{result_err};
-ghost use Rattle.values.specs.Balances.{counts_in_limit, stays_in_limit, turned as turned_by};
 ghost use Rattle.records.specs.Checks.{judged};
 ghost use Rattle.reading.specs.Limits.{texts_of};
 ghost use Rattle.reading.specs.Offers.{checks, cause_of};
-ghost use Rattle.reading.specs.Taken.{kind_told, Tells, InLimits, account_with, begun as begun_with, After, New, refusal_of, closing};
+ghost use Rattle.reading.specs.Taken.{kind_told, Tells, InLimits, account_with, After, New, refusal_of, closing};
 
 use crate::characters::first_bad;
 use crate::entries::Entry;
@@ -20,79 +19,26 @@ use records::equivalents::read_equivalent;
 use records::file_ends::read_file_end;
 use records::movements::read_movement;
 use records::texts::read_text;
-use values::{AccountHead, AccountNumber, Balance, Movement, OpenAccount, Period, Turnover};
+use values::{AccountHead, AccountNumber, Balance, OpenAccount, Period};
 
-// No movement has come.
-const NOTHING: Turnover = Turnover { count: 0, total: 0 };
-
-// What stands for the open account before one has begun.
-const NO_ACCOUNT: OpenAccount = OpenAccount {
-    head: AccountHead {
-        number: AccountNumber {
-            entity: 0,
-            office: 0,
-            number: 0,
-        },
-        period: Period {
-            first: Date { digits: 0 },
-            last: Date { digits: 0 },
-        },
-        initial: Balance {
-            key: Key::Debit,
-            amount: 0,
-        },
-        currency: 0,
-        modality: Modality::First,
+// What stands for the head of the open account before one has begun.
+const NO_HEAD: AccountHead = AccountHead {
+    number: AccountNumber {
+        entity: 0,
+        office: 0,
+        number: 0,
     },
-    debits: NOTHING,
-    credits: NOTHING,
+    period: Period {
+        first: Date { digits: 0 },
+        last: Date { digits: 0 },
+    },
+    initial: Balance {
+        key: Key::Debit,
+        amount: 0,
+    },
+    currency: 0,
+    modality: Modality::First,
 };
-
-fn begun(head: AccountHead) -> OpenAccount
-    ensures { result ≡ begun_with head }
-{
-    OpenAccount {
-        head,
-        debits: NOTHING,
-        credits: NOTHING,
-    }
-}
-
-// An account after a movement that stays in its limits.
-fn turned(account: &OpenAccount, key: Key, amount: u64) -> OpenAccount
-    requires { (counts_in_limit account.now key ≡ true) × (stays_in_limit account.now key amount ≡ true) }
-    ensures { result ≡ turned_by account.now key amount }
-{
-    let OpenAccount {
-        head,
-        debits,
-        credits,
-    } = *account;
-    match key {
-        Key::Debit => {
-            let debits = Turnover {
-                count: debits.count + 1,
-                total: debits.total + amount,
-            };
-            OpenAccount {
-                head,
-                debits,
-                credits,
-            }
-        }
-        Key::Credit => {
-            let credits = Turnover {
-                count: credits.count + 1,
-                total: credits.total + amount,
-            };
-            OpenAccount {
-                head,
-                debits,
-                credits,
-            }
-        }
-    }
-}
 
 // The account that is open after an entry.
 fn account_with(account: &OpenAccount, entry: &Entry) -> OpenAccount
@@ -100,8 +46,8 @@ fn account_with(account: &OpenAccount, entry: &Entry) -> OpenAccount
     ensures { result ≡ account_with account.now entry.now }
 {
     match entry {
-        Entry::Account(head, _) => begun(*head),
-        Entry::Movement(movement, _) => turned(account, movement.key, movement.amount),
+        Entry::Account(head, _) => OpenAccount::new(*head),
+        Entry::Movement(movement, _) => account.turned(movement.key, movement.amount),
         _ => *account,
     }
 }
@@ -138,19 +84,13 @@ impl Reading {
         ensures tells { IfOk result (λ e. Tells self.old.account offered.now e) }
         ensures after { After self.old self.new offered.now result }
     {
-        let Ok(characters) = <&[u8; 80]>::try_from(offered) else {
-            return Err(Cause::Length);
-        };
+        let characters = <&[u8; 80]>::try_from(offered).map_err(|_| Cause::Length)?;
         if let Some(i) = first_bad(characters) {
             return Err(Cause::Character((i + 1) as u8));
         }
         let [first, second, _fields @ ..] = characters;
-        let Some(kind) = Kind::of_code(*first, *second) else {
-            return Err(Cause::Code);
-        };
-        let Some(phase) = self.phase.next(kind) else {
-            return Err(Cause::Order);
-        };
+        let kind = Kind::try_from([*first, *second])?;
+        let phase = self.phase.next(kind).ok_or(Cause::Order)?;
         if self.taken + 1 > kind.last_number() {
             return Err(Cause::RecordLimit);
         }
@@ -178,7 +118,7 @@ impl Reading {
         Reading {
             phase: Phase::Start,
             taken: 0,
-            account: NO_ACCOUNT,
+            account: OpenAccount::new(NO_HEAD),
         }
     }
 
@@ -188,13 +128,9 @@ impl Reading {
         ensures tells { IfOk result (λ e. Tells self.old.account offered.now e) }
         ensures after { After self.old self.new offered.now result }
     {
-        match self.take(offered) {
-            Ok(entry) => Ok(entry),
-            Err(cause) => Err(Refusal {
-                cause,
-                record: self.next_number(),
-            }),
-        }
+        let record = self.next_number();
+        self.take(offered)
+            .map_err(|cause| Refusal { cause, record })
     }
 
     /// Whether the records taken are a whole file. It changes nothing.

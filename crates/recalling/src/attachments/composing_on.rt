@@ -1,5 +1,5 @@
 ghost use Rattle.std.specs.Prelude.{◌≡◌, ◌^◌, ◌<◌, ◌++◌, length};
-ghost use Rattle.recalling.specs.Remaining.{attached, Yields};
+ghost use Rattle.recalling.specs.Remaining.{attached};
 ghost use Rattle.recalling.specs.Statements.{text_records, equivalent_records};
 
 use crate::attachments::Attachments;
@@ -19,11 +19,20 @@ impl<'a> Attachments<'a> {
             equivalent,
         }
     }
+}
+
+impl<'a> Iterator for Attachments<'a> {
+    ghost use Rattle.std.specs.Iterator.{YieldsFirst, item_count};
+    ghost use Rattle.recalling.specs.Remaining.{attached_left};
+
+    type Item = Result<[u8; 80], Unfit>;
+
+    ghost next_gives = { YieldsFirst attached_left };
+
+    ghost remaining = { item_count attached_left };
 
     /// Composes the next record, if one is still to come.
-    pub(crate) fn next(&mut self) -> Option<Result<[u8; 80], Unfit>>
-        ensures { Yields (attached self.old) (attached self.new) result }
-    {
+    fn next(&mut self) -> Option<Result<[u8; 80], Unfit>> {
         if let Some((text, texts)) = self.texts.split_first() {
             let sequence = self.came + 1;
             *self = Attachments {
@@ -33,9 +42,7 @@ impl<'a> Attachments<'a> {
             };
             return Some(compose_text(sequence, &text.first, &text.second));
         }
-        match self.equivalent.take() {
-            Some(equivalent) => Some(compose_equivalent(&equivalent)),
-            None => None,
-        }
+        let equivalent = self.equivalent.take()?;
+        Some(compose_equivalent(&equivalent))
     }
 }

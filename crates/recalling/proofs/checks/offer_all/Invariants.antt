@@ -1,12 +1,8 @@
-use Rattle.std.proofs.Common.{length}
 use Rattle.reading.specs.Progress.{progress}
-use Rattle.recalling.specs.Remaining.{remaining}
+use Rattle.recalling.specs.Remaining.{left}
 use Rattle.recalling.specs.Statements.{rows_lent}
 use Rattle.recalling.proofs.Midway.{Midway}
 use Rattle.recalling.proofs.checks.offer_all.Given as goal
 
 abbrev pub invariant-loop-composed : goal.invariant-loop-composed
-invariant-loop-composed l = Midway (rows_lent l.statement) (progress l.reading) l.taken (remaining l.composition)
-
-abbrev pub decreases-loop-composed : goal.decreases-loop-composed
-decreases-loop-composed l = length (remaining l.composition)
+invariant-loop-composed l = Midway (rows_lent l.statement) (progress l.reading) l.taken (left l.composed-iterator)

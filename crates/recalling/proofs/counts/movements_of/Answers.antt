@@ -1,12 +1,9 @@
-use Rattle.std.proofs.Common.{ap, arith}
-use Rattle.std.proofs.lemmas.List.{drop_all}
-use Rattle.rows.specs.Kept.{movements_of}
-use Rattle.recalling.proofs.Counting.{movements_more}
+use Rattle.std.proofs.Common.{rules, ◌≡◌, sum_by, ◌∙◌}
+use Rattle.rows.specs.declared.accounts.AccountRow.{AccountRow}
+use Rattle.recalling.proofs.Counting.{summed}
 use Rattle.recalling.proofs.counts.movements_of.Goals as goal
 
-pub loop-row-preserved : goal.loop-row-preserved
-loop-row-preserved c =
-    (movements_more c.args.accounts.now c.loop-row.row-index _ _ _ _ c.loop-row-test.true c.from-count.ensures c.loop-row.invariant.0, omega arith)
-
 pub returns : goal.returns
-returns c = omega (arith, ap movements_of (drop_all c.loop-row.row-index c.args.accounts.now c.loop-row-test.false))
+returns c =
+    let is : c.sum.result ≡ sum_by (λ (row : AccountRow). row.movements) c.args.accounts.now = search rules in
+    is ∙ summed (λ (row : AccountRow). row.movements) c.args.accounts.now

@@ -1,11 +1,12 @@
-use Rattle.recalling.specs.Remaining.{remaining}
+use Rattle.std.proofs.Common.{map, ap, ◌∙◌}
+use Rattle.composing.specs.Parts.{composed}
+use Rattle.recalling.specs.Remaining.{left}
 use Rattle.recalling.proofs.Putting.{start, more}
 use Rattle.recalling.proofs.writing.put_records.Goals as goal
 
 pub loop-composed-init : goal.loop-composed-init
-loop-composed-init g c = start _ _ _ _ _ c.requires.checked c.requires.places c.new-composition.ensures
+loop-composed-init g c = start _ _ _ _ _ c.requires.checked c.requires.places (ap left c.into_iter-composed-iterator.ensures.into_iter_gives ∙ ap (map composed) c.new-composed-items.ensures)
 
 pub loop-composed-preserved : goal.loop-composed-preserved
 loop-composed-preserved g c =
-    let next = c.in-Some.ensures in
-    more _ _ _ _ _ _ _ _ _ (remaining c.next.new.self) _ _ c.loop-composed.invariant next.1 next.2 c.put_composed.ensures.put c.put_composed.ensures.places
+    more _ _ _ _ _ _ _ _ _ (left c.next.new.self) _ c.loop-composed.invariant c.in-Some.ensures.steps c.put_composed.ensures.put c.put_composed.ensures.places

@@ -1,12 +1,8 @@
-use Rattle.std.proofs.Common.{length}
-use Rattle.recalling.specs.Remaining.{remaining}
+use Rattle.recalling.specs.Remaining.{left}
 use Rattle.recalling.specs.Statements.{rows_lent}
 use Rattle.recalling.proofs.Putting.{Midway}
 use Rattle.recalling.proofs.writing.put_records.Given as goal
 
 abbrev pub invariant-loop-composed : goal.invariant-loop-composed
 invariant-loop-composed g l =
-    Midway (rows_lent l.statement) (g.O.Output.put l.initial.output) (g.O.Output.put l.output) (g.O.Output.places l.initial.output) (g.O.Output.places l.output) l.records (remaining l.composition)
-
-abbrev pub decreases-loop-composed : goal.decreases-loop-composed
-decreases-loop-composed g l = length (remaining l.composition)
+    Midway (rows_lent l.statement) (g.O.Output.put l.initial.output) (g.O.Output.put l.output) (g.O.Output.places l.initial.output) (g.O.Output.places l.output) l.records (left l.composed-iterator)

@@ -1,19 +1,8 @@
-use Rattle.std.proofs.Common.{◌≡◌, ◌+◌, length, sym, refl, ap, ◌∙◌, arith}
-use Rattle.std.proofs.lemmas.Bool.{ne_eqb}
-use Rattle.media.specs.Images.{framed, bytes_after, places_left}
-use Rattle.media.proofs.Writing.{part_length}
-use Rattle.media.proofs.Appending.{Put, room, text_long, wrote, put}
+use Rattle.std.proofs.Common.{◌≡◌, ◌+◌, ap, ◌∙◌}
+use Rattle.media.specs.Images.{framed, bytes_after}
+use Rattle.media.proofs.Appending.{Put, room, wrote, put}
 use Rattle.media.proofs.images.putting.ImageOutput.put.Goals as goal
 use Rattle.media.proofs.images.putting.ImageOutput.put.Goals.{After-stride}
-
-pub write_behind-requires-2 : goal.write_behind-requires-2
-write_behind-requires-2 c =
-    let i = c.args.self.now in
-    let fits = room i (λ z. c.if-places-eq0.false (c.places.ensures ∙ z)) in
-    let e = c.in-Some.ensures in
-    let b = c.write_behind.ensures.behind in
-    let long : length c.in-Some.text ≡ 80 = ap length e.1 ∙ text_long i.framing i.table c.args.offered.now e.0 in
-    (omega (arith, b.position_same), omega (arith, fits, long, ap length c.line_end.ensures, ap length b.part_written, part_length i.bytes.now c.in-Some.text i.position (omega arith)))
 
 -- the record and its line end are written
 written : (c : goal.After-stride) → c.write_behind-2.new.self.bytes.now ≡ bytes_after c.args.self.now.bytes.now c.args.self.now.position (framed c.args.self.now.framing c.args.self.now.table c.args.offered.now)
@@ -37,15 +26,10 @@ done c =
 pub invariant_of-self : goal.invariant_of-self
 invariant_of-self c = let p = done c in record { within = p.inside; clean = p.clean }
 
-pub returns : goal.returns
-returns c =
-    let was = (goal.at.returns c).After-stride in
-    let i = c.args.self.now in
-    let p = done was in
-    record {
-      answer = sym (rw (c.in-Some.ensures.0, ne_eqb (places_left i) 0 (λ z. c.if-places-eq0.false (c.places.ensures ∙ z))) refl);
-      puts = (p.records, p.places);
-      kept = λ e. grind arith;
-      writes = record { bytes_written = written was; position_moved = ap (λ n. i.position + n) c.stride.ensures; framing_kept = same-framing was; table_kept = same-table was };
-      lent = c.write_behind-2.ensures.lent ∙ c.write_behind.ensures.lent;
-    }
+pub returns-clause-puts : goal.returns-clause-puts
+returns-clause-puts c = let p = done (goal.at.returns-clause-puts c).After-stride in (p.records, p.places)
+
+pub returns-clause-writes : goal.returns-clause-writes
+returns-clause-writes c =
+    let was = (goal.at.returns-clause-writes c).After-stride in
+    record { bytes_written = written was; position_moved = ap (λ n. c.args.self.now.position + n) c.stride.ensures; framing_kept = same-framing was; table_kept = same-table was }
