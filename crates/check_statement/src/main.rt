@@ -3,11 +3,11 @@
 
 use checking::check;
 use checking::checks::MOST_BYTES;
+use rows::Tables;
 use rows::accounts::UNUSED_ACCOUNT;
 use rows::movements::UNUSED_MOVEMENT;
 use rows::texts::UNUSED_TEXT;
 use std::io::Read;
-use table::Table;
 
 // How many rows each table has.
 const ROWS: usize = 800;
@@ -22,10 +22,8 @@ fn main(rt: HostRuntime) -> anyhow::Result<()> {
     let mut accounts = vec![in heap; UNUSED_ACCOUNT; ROWS]?;
     let mut movements = vec![in heap; UNUSED_MOVEMENT; ROWS]?;
     let mut texts = vec![in heap; UNUSED_TEXT; ROWS]?;
-    let mut accounts = Table::new(&mut accounts);
-    let mut movements = Table::new(&mut movements);
-    let mut texts = Table::new(&mut texts);
-    let report = check(&input, &mut accounts, &mut movements, &mut texts);
+    let mut tables = Tables::new(&mut accounts, &mut movements, &mut texts);
+    let report = check(&input, &mut tables);
     print!(rt; "{report}")?;
     Ok(())
 }

@@ -8,8 +8,8 @@ use Rattle.charset.specs.declared.code_table.CodeTable.{CodeTable}
 use Rattle.media.specs.Bytes.{contents}
 use Rattle.media.specs.declared.framing.Framing.TheVariants.{Lines}
 use Rattle.rows.specs.declared.notices.Layer.TheVariants as layer
-use Rattle.archiving.specs.Entering.{Room}
-use Rattle.archiving.specs.Filling.{Tables, room_in, Holds}
+use Rattle.rows.specs.declared.archive.Tables.{Tables}
+use Rattle.rows.specs.Tables.{Room, room_in, Holds}
 use Rattle.archiving.specs.Numbers.{read_notice}
 use Rattle.archiving.specs.Reads.{Outcome, read_of}
 use Rattle.checking.specs.declared.lines.Report.{Report}

@@ -1,24 +1,17 @@
-ghost use Rattle.archiving.specs.Filling.{tables};
 ghost use Rattle.checking.specs.Checks.{Checked};
 
 use crate::lines::Report;
 use charset::{CodePage, CodeTable};
 use guarantee::read;
 use media::{Framing, Volume};
-use rows::{AccountRow, Layer, MovementRow, Notice, TextRow};
-use table::Table;
+use rows::{Layer, Notice, Tables};
 
 /// The most bytes that are checked.
 pub const MOST_BYTES: usize = 65_536;
 
 /// Reads an input, lines in page 850, into tables, and tells what came of it. An input of too many bytes is not read.
-pub fn check(
-    input: &[u8],
-    accounts: &mut Table<'_, AccountRow>,
-    movements: &mut Table<'_, MovementRow>,
-    texts: &mut Table<'_, TextRow>,
-) -> Report
-    ensures { Checked (tables accounts.old movements.old texts.old) (tables accounts.new movements.new texts.new) input.now result }
+pub fn check(input: &[u8], tables: &mut Tables<'_>) -> Report
+    ensures { Checked tables.old tables.new input.now result }
 {
     if input.len() > MOST_BYTES {
         return Report {
@@ -34,13 +27,10 @@ pub fn check(
         };
     }
     let mut volume = Volume::new(input, Framing::Lines, CodeTable::from(CodePage::Page850));
-    let notice = match read(&mut volume, accounts, movements, texts) {
-        Ok(_) => None,
-        Err(refusal) => Some(refusal.notice()),
-    };
+    let notice = read(&mut volume, tables).err().map(Notice::from);
     Report {
         notice,
-        accounts: accounts.len(),
-        movements: movements.len(),
+        accounts: tables.accounts.len(),
+        movements: tables.movements.len(),
     }
 }

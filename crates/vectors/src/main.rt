@@ -2,11 +2,11 @@
 #![tactic(auto)]
 
 use checking::check;
+use rows::Tables;
 use rows::accounts::UNUSED_ACCOUNT;
 use rows::movements::UNUSED_MOVEMENT;
 use rows::texts::UNUSED_TEXT;
 use std::fs;
-use table::Table;
 
 // How many rows each table has, as in `check_statement`.
 const ROWS: usize = 800;
@@ -16,15 +16,13 @@ fn main(rt: HostRuntime) -> anyhow::Result<()> {
     let mut accounts = vec![in heap; UNUSED_ACCOUNT; ROWS]?;
     let mut movements = vec![in heap; UNUSED_MOVEMENT; ROWS]?;
     let mut texts = vec![in heap; UNUSED_TEXT; ROWS]?;
-    let mut accounts = Table::new(&mut accounts);
-    let mut movements = Table::new(&mut movements);
-    let mut texts = Table::new(&mut texts);
+    let mut tables = Tables::new(&mut accounts, &mut movements, &mut texts);
     let expected = fs::read_to_string(&rt, "expected")?;
     let mut equal = 0u64;
     for (number, line) in expected.lines().enumerate() {
         let path = format!(in heap; "{number:03}.c43")?;
         let input = fs::read(&rt, path.as_str())?;
-        let told = check(&input, &mut accounts, &mut movements, &mut texts).to_string(heap)?;
+        let told = check(&input, &mut tables).to_string(heap)?;
         if told.as_str().trim_end() == line.trim_end() {
             equal = equal.saturating_add(1);
         } else {
