@@ -10,7 +10,6 @@ use Rattle.composing.specs.declared.account_ends.AccountClose.{AccountClose}
 use Rattle.rows.specs.Kept.{Rows, texts_of}
 use Rattle.rows.specs.declared.accounts.AccountRow.{AccountRow}
 use Rattle.rows.specs.declared.movements.MovementRow.{MovementRow}
-use Rattle.rows.specs.declared.tables.Statement.{Statement}
 use Rattle.rows.specs.declared.texts.TextRow.{TextRow}
 
 -- the texts of a movement after so many others, numbered on
@@ -71,7 +70,3 @@ before_end t = accounts_records t.accounts t.movements t.texts
 
 abbrev pub statement_records : Rows → List (List Part)
 statement_records t = before_end t ++ (file_end_layout (length (before_end t)) ∷ [])
-
--- the rows that a statement lends
-abbrev pub rows_lent : Statement → Rows
-rows_lent s = record { accounts = s.accounts.now; movements = s.movements.now; texts = s.texts.now }

@@ -2,7 +2,7 @@ ghost use Rattle.std.specs.Prelude.{◌≡◌, ◌+◌, OnOk};
 ghost use Rattle.std.specs.Result.{result_err};
 ghost use Rattle.reading.specs.Progress.{progress, after as after_record};
 ghost use Rattle.recalling.specs.Checking.{made_or_none, trying, offering, checking};
-ghost use Rattle.recalling.specs.Statements.{rows_lent};
+ghost use Rattle.rows.specs.Kept.{rows_lent};
 
 use crate::compositions::Composition;
 use crate::counts::check_counts;

@@ -1,7 +1,8 @@
 ghost use Rattle.std.specs.Prelude.{◌≡◌, [], Some, None};
 ghost use Rattle.std.specs.Iterator.{YieldsFirst};
 ghost use Rattle.recalling.specs.Remaining.{attached_left, remaining, left};
-ghost use Rattle.recalling.specs.Statements.{before_end, rows_lent};
+ghost use Rattle.rows.specs.Kept.{rows_lent};
+ghost use Rattle.recalling.specs.Statements.{before_end};
 
 use crate::account_ends::compose_end;
 use crate::attachments::Attachments;

@@ -1,7 +1,6 @@
 ghost use Rattle.std.specs.Prelude.{◌≡◌};
-ghost use Rattle.rows.specs.Kept.{movements_of, texts_of};
+ghost use Rattle.rows.specs.Kept.{movements_of, rows_lent, texts_of};
 ghost use Rattle.recalling.specs.Checking.{counting};
-ghost use Rattle.recalling.specs.Statements.{rows_lent};
 
 use crate::refusals::TableRefusal;
 use rows::{AccountRow, MovementRow, Statement};

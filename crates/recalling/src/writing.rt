@@ -1,7 +1,8 @@
 ghost use Rattle.std.specs.Prelude.{◌≡◌, ◌+◌, ◌<◌, ◌≤◌, true, [], ◌∷◌, ◌++◌, is_err, Ok};
 ghost use Rattle.media.specs.Meaning.{is_record};
 ghost use Rattle.recalling.specs.Checking.{made_or_none, checking};
-ghost use Rattle.recalling.specs.Statements.{rows_lent, statement_records};
+ghost use Rattle.rows.specs.Kept.{rows_lent};
+ghost use Rattle.recalling.specs.Statements.{statement_records};
 ghost use Rattle.recalling.specs.Writing.{records_of, writing, Written};
 
 use crate::checks::check_tables;

@@ -1,6 +1,6 @@
 use Rattle.reading.specs.Progress.{progress}
 use Rattle.recalling.specs.Remaining.{left}
-use Rattle.recalling.specs.Statements.{rows_lent}
+use Rattle.rows.specs.Kept.{rows_lent}
 use Rattle.recalling.proofs.Midway.{Midway}
 use Rattle.recalling.proofs.checks.offer_all.Given as goal
 

@@ -1,5 +1,5 @@
 use Rattle.recalling.specs.Remaining.{left}
-use Rattle.recalling.specs.Statements.{rows_lent}
+use Rattle.rows.specs.Kept.{rows_lent}
 use Rattle.recalling.proofs.Putting.{Midway}
 use Rattle.recalling.proofs.writing.put_records.Given as goal
 
