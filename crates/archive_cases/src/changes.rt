@@ -56,17 +56,17 @@ impl Room {
     pub fn change(&mut self, change: Change) -> Result<(), AllocError> {
         match change {
             Change::Account(index, change) => {
-                if let Some(row) = self.accounts.get_mut(index) {
+                if let Some(row) = self.rows.accounts.get_mut(index) {
                     change_account(row, change);
                 }
             }
             Change::Movement(index, change) => {
-                if let Some(row) = self.movements.get_mut(index) {
+                if let Some(row) = self.rows.movements.get_mut(index) {
                     change_movement(row, change);
                 }
             }
             Change::Text(place, byte) => {
-                if let Some(row) = self.texts.first_mut() {
+                if let Some(row) = self.rows.texts.first_mut() {
                     change_text(row, place, byte);
                 }
             }

@@ -57,9 +57,13 @@ fn show_room(rt: &HostRuntime, file: &[u8], size: Size) -> anyhow::Result<()> {
     print!(rt; "{a} {m} {t}: ")?;
     let mut room = marked(rt.alloc(), size)?;
     show_filling(rt, file, &mut room)?;
-    let accounts = room.accounts.iter().filter(|row| row.movements == MARK);
-    let movements = room.movements.iter().filter(|row| row.texts == MARK);
-    let texts = room.texts.iter().filter(|row| row.first[0] == 0);
+    let accounts = room
+        .rows
+        .accounts
+        .iter()
+        .filter(|row| row.movements == MARK);
+    let movements = room.rows.movements.iter().filter(|row| row.texts == MARK);
+    let texts = room.rows.texts.iter().filter(|row| row.first[0] == 0);
     println!(rt;
         ", untouched {} {} {}",
         accounts.count(),
@@ -72,13 +76,13 @@ fn show_room(rt: &HostRuntime, file: &[u8], size: Size) -> anyhow::Result<()> {
 // So many rows, each with its mark.
 fn marked(heap: Global, size: Size) -> Result<Room, AllocError> {
     let mut room = Room::new(heap, size)?;
-    for row in &mut room.accounts {
+    for row in &mut room.rows.accounts {
         row.movements = MARK;
     }
-    for row in &mut room.movements {
+    for row in &mut room.rows.movements {
         row.texts = MARK;
     }
-    for row in &mut room.texts {
+    for row in &mut room.rows.texts {
         row.first = [0; 38];
     }
     Ok(room)

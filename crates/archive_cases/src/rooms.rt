@@ -4,7 +4,7 @@ use media::Framing;
 use rows::accounts::UNUSED_ACCOUNT;
 use rows::movements::UNUSED_MOVEMENT;
 use rows::texts::UNUSED_TEXT;
-use rows::{AccountRow, MovementRow, Statement, Tables, TextRow};
+use rows::{RowStore, Statement, Tables};
 use std::alloc::{AllocError, Global};
 
 /// How many accounts, movements and texts there are.
@@ -16,9 +16,7 @@ pub const SAMPLE: Size = [2, 3, 2];
 /// The rows that are lent to tables.
 #[derive(Clone, Drop)]
 pub struct Room {
-    pub accounts: Vec<AccountRow>,
-    pub movements: Vec<MovementRow>,
-    pub texts: Vec<TextRow>,
+    pub rows: RowStore,
 }
 
 impl Room {
@@ -26,9 +24,7 @@ impl Room {
     pub fn new(heap: Global, size: Size) -> Result<Room, AllocError> {
         let [accounts, movements, texts] = size;
         Ok(Room {
-            accounts: vec![in heap; UNUSED_ACCOUNT; accounts]?,
-            movements: vec![in heap; UNUSED_MOVEMENT; movements]?,
-            texts: vec![in heap; UNUSED_TEXT; texts]?,
+            rows: RowStore::new(heap, accounts, movements, texts)?,
         })
     }
 
@@ -43,23 +39,23 @@ impl Room {
     /// Lends fewer rows, or some unused ones behind these.
     pub fn resize(&mut self, size: Size) -> Result<(), AllocError> {
         let [accounts, movements, texts] = size;
-        self.accounts.resize(accounts, UNUSED_ACCOUNT)?;
-        self.movements.resize(movements, UNUSED_MOVEMENT)?;
-        self.texts.resize(texts, UNUSED_TEXT)?;
+        self.rows.accounts.resize(accounts, UNUSED_ACCOUNT)?;
+        self.rows.movements.resize(movements, UNUSED_MOVEMENT)?;
+        self.rows.texts.resize(texts, UNUSED_TEXT)?;
         Ok(())
     }
 
     /// Empty tables over these rows.
     pub fn tables(&mut self) -> Tables<'_> {
-        Tables::new(&mut self.accounts, &mut self.movements, &mut self.texts)
+        self.rows.tables()
     }
 
     /// These rows as the filled rows of tables.
     pub fn statement(&self) -> Statement<'_> {
         Statement {
-            accounts: &self.accounts,
-            movements: &self.movements,
-            texts: &self.texts,
+            accounts: &self.rows.accounts,
+            movements: &self.rows.movements,
+            texts: &self.rows.texts,
         }
     }
 }

@@ -3,10 +3,7 @@
 
 use checking::check;
 use checking::checks::MOST_BYTES;
-use rows::Tables;
-use rows::accounts::UNUSED_ACCOUNT;
-use rows::movements::UNUSED_MOVEMENT;
-use rows::texts::UNUSED_TEXT;
+use rows::RowStore;
 use std::io::Read;
 
 // How many rows each table has.
@@ -19,10 +16,8 @@ fn main(rt: HostRuntime) -> anyhow::Result<()> {
     rt.stdin()
         .take(MOST_BYTES as u64 + 1)
         .read_to_end(&mut input)?;
-    let mut accounts = vec![in heap; UNUSED_ACCOUNT; ROWS]?;
-    let mut movements = vec![in heap; UNUSED_MOVEMENT; ROWS]?;
-    let mut texts = vec![in heap; UNUSED_TEXT; ROWS]?;
-    let mut tables = Tables::new(&mut accounts, &mut movements, &mut texts);
+    let mut store = RowStore::new(heap, ROWS, ROWS, ROWS)?;
+    let mut tables = store.tables();
     let report = check(&input, &mut tables);
     print!(rt; "{report}")?;
     Ok(())

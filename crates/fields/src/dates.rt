@@ -25,8 +25,8 @@ impl Date {
         self.order() >= other.order()
     }
 
-    // No `Ord`: numbers that are no dates can share one order, and the rules want one function to compare by.
     // A number that grows with the date: the years 82 to 99 come before the years 00 to 81.
+    // No `Ord`: numbers that are no dates can share one order, and the rules want one function to compare by.
     fn order(self) -> u64
         ensures { result ≡ day_order self.digits }
     {

@@ -22,8 +22,8 @@ pub struct Audited {
     pub written: Result<u32, WriteRefusal>,
 }
 
-/// Makes calls on a new reading, with their answers in a table; reads two carriers, each into tables of its own; and writes what was read from the first
-/// to an output. Its contract states the main promises whole.
+/// Makes calls on a new reading, with their answers in a table; reads two carriers, each into tables of its own; and
+/// writes what was read from the first to an output. Its contract states the main promises whole.
 pub fn audit<C: Carrier, D: Carrier, O: Output>(
     calls: &[Call<'_>],
     answers: &mut Table<'_, Option<Refusal>>,

@@ -12,7 +12,9 @@ pub fn named_volumes(rt: &HostRuntime) -> anyhow::Result<Vec<VolumeFile>> {
             Some(way) => volumes.push(VolumeFile::load(rt, way, word.as_str())?)?,
             None => {
                 let named = word.as_str().parse::<Way>();
-                way = Some(named.context(format_args!("no way to read a volume is named '{word}'"))?);
+                way = Some(named.context(format_args!(
+                    "no way to read a volume is named '{word}'"
+                ))?);
             }
         }
     }

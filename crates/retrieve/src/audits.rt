@@ -1,9 +1,9 @@
 use crate::holdings::VolumeFile;
-use crate::rooms::Room;
 use crate::wording::Many;
 use guarantee::{Audited, Call, audit};
 use media::framing::RECORD_LENGTH;
 use reading::Refusal;
+use rows::RowStore;
 use table::Table;
 
 /// Audits two copies of a statement: its records are offered to a reading, which is then closed; both copies are read; and
@@ -18,8 +18,9 @@ pub fn audit_copies(rt: &HostRuntime, disk: &VolumeFile, tape: &VolumeFile) -> a
     calls.push(Call::Close)?;
     let mut answers = vec![in heap; None; calls.len()]?;
     let mut answers = Table::new(&mut answers);
-    let mut first = Room::of_each(heap, calls.len())?;
-    let mut second = Room::of_each(heap, calls.len())?;
+    let most = calls.len();
+    let mut first = RowStore::new(heap, most, most, most)?;
+    let mut second = RowStore::new(heap, most, most, most)?;
     let mut bytes = vec![in heap; 0; disk.bytes.len()]?;
     let audited = audit(
         calls.as_slice(),

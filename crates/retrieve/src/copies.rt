@@ -1,12 +1,12 @@
 use crate::audits::audit_copies;
 use crate::holdings::VolumeFile;
 use crate::notices::Numbers;
-use crate::rooms::{Room, Size};
+use crate::sizes::Size;
 use crate::ways::Way;
 use crate::wording::Many;
 use anyhow::bail;
 use guarantee::{read, write};
-use rows::{Notice, Statement};
+use rows::{Notice, RowStore, Statement};
 use std::fs;
 
 /// A statement, and how many records it has.
@@ -49,8 +49,8 @@ impl<'a> Counted<'a> {
     // Reads a copy into tables of its own, and compares it with this statement.
     fn read_back(&self, rt: &HostRuntime, copy: &VolumeFile) -> anyhow::Result<()> {
         let size = Size::from(&self.statement);
-        let mut room = Room::new(rt.alloc(), size)?;
-        let mut tables = room.tables();
+        let mut store = RowStore::new(rt.alloc(), size.accounts, size.movements, size.texts)?;
+        let mut tables = store.tables();
         if let Err(refusal) = read(&mut copy.carrier(), &mut tables) {
             println!(rt; "  {}", Numbers(Notice::from(refusal)))?;
             bail!("the copy is not read back");

@@ -9,7 +9,7 @@ mod audits;
 mod copies;
 mod holdings;
 mod notices;
-mod rooms;
+mod sizes;
 mod ways;
 mod wording;
 
@@ -20,8 +20,8 @@ use copies::Counted;
 use holdings::{VolumeFile, most_rows, read_holding, tell_volumes};
 use notices::{Numbers, Refused};
 use recalling::check_tables;
-use rooms::{Room, Size};
-use rows::{Notice, Statement};
+use rows::{Notice, RowStore, Statement};
+use sizes::Size;
 use ways::Way;
 
 fn main(rt: HostRuntime) -> anyhow::Result<()> {
@@ -49,8 +49,9 @@ fn recall_sample(rt: &HostRuntime, tape: &str) -> anyhow::Result<()> {
 
 // Reads a holding, and writes its copies unless it is refused.
 fn recall(rt: &HostRuntime, volumes: &[VolumeFile]) -> anyhow::Result<()> {
-    let mut room = Room::of_each(rt.alloc(), most_rows(volumes))?;
-    let mut tables = room.tables();
+    let most = most_rows(volumes);
+    let mut store = RowStore::new(rt.alloc(), most, most, most)?;
+    let mut tables = store.tables();
     tell_volumes(rt, volumes)?;
     let answer = read_holding(volumes, &mut tables)?;
     let statement = tables.statement();

@@ -6,6 +6,7 @@ pub mod accounts;
 pub mod archive;
 pub mod movements;
 pub mod notices;
+pub mod stores;
 pub mod tables;
 pub mod texts;
 
@@ -13,5 +14,6 @@ pub use accounts::AccountRow;
 pub use archive::Tables;
 pub use movements::MovementRow;
 pub use notices::{Layer, Notice};
+pub use stores::RowStore;
 pub use tables::{Statement, TableKind};
 pub use texts::TextRow;

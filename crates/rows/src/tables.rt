@@ -5,8 +5,8 @@ use crate::accounts::AccountRow;
 use crate::movements::MovementRow;
 use crate::texts::TextRow;
 
-/// The filled rows of the three tables of the archive. Each account has the next movements, and each movement the next texts, as many as
-/// its row says.
+/// The filled rows of the three tables of the archive. Each account has the next movements, and each movement the next
+/// texts, as many as its row says.
 #[derive(Clone, Copy, PartialEq, Eq, Debug)]
 pub struct Statement<'a> {
     pub accounts: &'a [AccountRow],

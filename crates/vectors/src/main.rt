@@ -2,10 +2,7 @@
 #![tactic(auto)]
 
 use checking::check;
-use rows::Tables;
-use rows::accounts::UNUSED_ACCOUNT;
-use rows::movements::UNUSED_MOVEMENT;
-use rows::texts::UNUSED_TEXT;
+use rows::RowStore;
 use std::fs;
 
 // How many rows each table has, as in `check_statement`.
@@ -13,10 +10,8 @@ const ROWS: usize = 800;
 
 fn main(rt: HostRuntime) -> anyhow::Result<()> {
     let heap = rt.alloc();
-    let mut accounts = vec![in heap; UNUSED_ACCOUNT; ROWS]?;
-    let mut movements = vec![in heap; UNUSED_MOVEMENT; ROWS]?;
-    let mut texts = vec![in heap; UNUSED_TEXT; ROWS]?;
-    let mut tables = Tables::new(&mut accounts, &mut movements, &mut texts);
+    let mut store = RowStore::new(heap, ROWS, ROWS, ROWS)?;
+    let mut tables = store.tables();
     let expected = fs::read_to_string(&rt, "expected")?;
     let mut equal = 0u64;
     for (number, line) in expected.lines().enumerate() {

@@ -3,8 +3,7 @@ ghost use Rattle.table.specs.Rows.{held, Pushed, WasSet, ReadAt, LastOf};
 
 use crate::tables::{Full, Table};
 
-// Each method that changes a table says that its rows are still those lent: a caller knows its own rows again only by that,
-// and no invariant can say it, since it speaks of two moments.
+// `lent` stands at each method that changes a table, since no invariant can speak of two moments.
 impl<'a, T: Copy> Table<'a, T> {
     /// An empty table over these rows.
     pub fn new(rows: &'a mut [T]) -> Table<'a, T>
@@ -38,7 +37,7 @@ impl<'a, T: Copy> Table<'a, T> {
     }
 
     /// Puts another row in the place of a filled one, and tells whether there is one.
-    // A bool, as the library's sets answer: where there is no such row, nothing is refused.
+    // A bool: an error would tell no more than false, and is no plainer.
     pub fn set(&mut self, index: usize, row: T) -> bool
         ensures set { WasSet self.old.rows.now self.old.filled index row self.new.rows.now result }
         ensures filled { self.new.filled ≡ self.old.filled }
