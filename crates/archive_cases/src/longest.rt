@@ -9,6 +9,7 @@ use rows::texts::UNUSED_TEXT;
 use rows::{AccountRow, MovementRow, Notice, Statement, Tables, TextRow};
 use std::alloc::{AllocError, Global};
 
+// The records of this program's own case; reading_cases has a file whose amounts differ.
 const HEAD: &[u8] =
     b"119999000100000000012603012603312000000000000009781PRUEBA                       ";
 

@@ -1,6 +1,7 @@
 use reading::Reading;
 use std::io;
 
+// The records of this program's own case; archive_cases has a file whose amounts differ.
 const HEAD: &[u8] =
     b"119999000100000000012603012603312000000000000009781PRUEBA                       ";
 

@@ -35,6 +35,7 @@ fn show_close(rt: &HostRuntime, reading: &Reading) -> io::Result<()> {
     }
 }
 
+// A function and no `Display`, which would need a type of its own round an entry.
 fn name(entry: &Entry) -> &'static str {
     match entry {
         Entry::Account(..) => "account",
