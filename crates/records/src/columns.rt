@@ -8,7 +8,7 @@ ghost use Rattle.records.specs.Values.{number_at, date_at};
 use crate::refusals::{FieldRefusal, Question};
 use fields::{Date, is_blank, is_common_concept, is_currency, is_reference, read_number};
 
-/// The columns of a field of a record, counted from 1, and at most so many.
+/// The columns of a field of a record, counted from 1: at most `MOST` of them.
 #[derive(Clone, Copy)]
 pub(crate) struct Columns<const MOST: usize> {
     pub(crate) from: usize,
@@ -39,6 +39,7 @@ impl From<Short> for Number {
     }
 }
 
+// The number of an account stands in the same columns of its first record and of its end.
 pub(crate) const ENTITY: Short = Columns { from: 3, to: 6 };
 
 pub(crate) const OFFICE: Short = Columns { from: 7, to: 10 };
@@ -104,6 +105,7 @@ pub(crate) fn spaces<const MOST: usize>(
 }
 
 // A date, which is a real day.
+// These four ask their own tests: a function that takes one needs a clause over any test, and each caller an answer.
 #[tactic(auto, using(crate::proofs::Judging::chain), unfolding(crate::specs::Checks::date, crate::specs::Checks::is_date))]
 pub(crate) fn date(offered: &[u8; 80], field: Short) -> Result<Date, FieldRefusal>
     ensures refusal { result_err result ≡ judged (date_of field.from field.to) offered.now }
@@ -116,7 +118,7 @@ pub(crate) fn date(offered: &[u8; 80], field: Short) -> Result<Date, FieldRefusa
     Ok(date)
 }
 
-// A code of the currencies. One function for both lists would take the list, its test and its clause, and is no plainer.
+// A code of the currencies.
 #[tactic(auto, using(crate::proofs::Judging::chain), unfolding(crate::specs::Checks::currency, crate::specs::Checks::is_currency))]
 pub(crate) fn currency(offered: &[u8; 80], field: Short) -> Result<u32, FieldRefusal>
     ensures refusal { result_err result ≡ judged (currency_of field.from field.to) offered.now }
