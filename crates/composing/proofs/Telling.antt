@@ -1,5 +1,5 @@
 -- A composed record tells the values that it was composed from. Assumes nothing.
-use Rattle.std.proofs.Common.{◌≡◌, ℕ, suc, ◌+◌, cond, eqb, List, [], ◌∷◌, length, take, drop, is_some, Some, None, Ok, Option, refl, ap, ◌∙◌, arith}
+use Rattle.std.proofs.Common.{◌≡◌, ℕ, suc, ◌+◌, cond, eqb, List, [], ◌∷◌, length, take, drop, is_some, IfOk, Some, None, Ok, Option, Result, refl, ap, ◌∙◌, arith}
 use Rattle.std.proofs.lemmas.Bool.{true≢false, false≢true}
 use Rattle.fields.specs.Decimal.{all_digits}
 use Rattle.fields.specs.Keys.{key_digit}
@@ -18,7 +18,8 @@ use Rattle.composing.specs.Layouts.{account_layout, movement_layout, text_layout
 use Rattle.composing.specs.Parts.{Part, plain, spelled_or_spaces, composed}
 use Rattle.composing.specs.Records.{Stands, tells_origin, tells_reference, AccountRecord, MovementRecord, TextRecord, EquivalentRecord, ended, AccountEndRecord, FileEndRecord}
 use Rattle.composing.specs.declared.account_ends.AccountClose.{AccountClose}
-use Rattle.composing.proofs.Standing.{width, widths, part_there, number_there, spaces_there, digits_there, digit_characters, Lettered, characters_there}
+use Rattle.composing.specs.declared.refusals.Unfit.{Unfit}
+use Rattle.composing.proofs.Standing.{made_of, width, widths, part_there, number_there, spaces_there, digits_there, digit_characters, Lettered, characters_there}
 
 -- the digit of a key or of a modality reads as it
 key_there : (a : ℕ) (r : List ℕ) (k : Key) → number_at a a r ≡ key_digit k → key_at a r ≡ k
@@ -180,3 +181,22 @@ file_end_tells n r is =
       free = spaces_there ps r is 3 27 80 refl refl refl;
       characters = characters_there ps r is (digit_characters nines refl, tt);
     }
+
+-- what a function answers that composes a record
+pub account_told : (h : AccountHead) (name : List ℕ) (answer : Result (List ℕ) Unfit) → length name ≡ 26 → answer ≡ composed (account_layout h name) → IfOk answer (AccountRecord h name)
+account_told h name answer long is = made_of _ _ answer is (λ r. account_tells h name r long)
+
+pub movement_told : (m : Movement) (second : List ℕ) (answer : Result (List ℕ) Unfit) → length second ≡ 16 → answer ≡ composed (movement_layout m second) → IfOk answer (MovementRecord m second)
+movement_told m second answer long is = made_of _ _ answer is (λ r. movement_tells m second r long)
+
+pub text_told : (n : ℕ) (first second : List ℕ) (answer : Result (List ℕ) Unfit) → length first ≡ 38 → length second ≡ 38 → answer ≡ composed (text_layout n first second) → IfOk answer (TextRecord n first second)
+text_told n first second answer long too is = made_of _ _ answer is (λ r. text_tells n first second r long too)
+
+pub equivalent_told : (e : Equivalent) (answer : Result (List ℕ) Unfit) → answer ≡ composed (equivalent_layout e) → IfOk answer (EquivalentRecord e)
+equivalent_told e answer is = made_of _ _ answer is (equivalent_tells e)
+
+pub account_end_told : (e : AccountClose) (answer : Result (List ℕ) Unfit) → answer ≡ composed (account_end_layout e) → IfOk answer (AccountEndRecord e)
+account_end_told e answer is = made_of _ _ answer is (account_end_tells e)
+
+pub file_end_told : (n : ℕ) (answer : Result (List ℕ) Unfit) → answer ≡ composed (file_end_layout n) → IfOk answer (FileEndRecord n)
+file_end_told n answer is = made_of _ _ answer is (file_end_tells n)

@@ -20,6 +20,7 @@ pub struct AccountClose {
 }
 
 /// Composes an account end.
+#[tactic(auto, using(crate::proofs::Building::chain), unfolding(crate::specs::Parts::composed, crate::specs::Layouts::account_end_layout))]
 pub fn compose_account_end(close: &AccountClose) -> Result<[u8; 80], Unfit>
     ensures answer { result ≡ composed (account_end_layout close.now) }
     ensures tells { IfOk result (AccountEndRecord close.now) }

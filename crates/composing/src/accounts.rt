@@ -8,6 +8,7 @@ use crate::refusals::Unfit;
 use values::AccountHead;
 
 /// Composes an account record.
+#[tactic(auto, using(crate::proofs::Building::chain, crate::proofs::Telling::account_told), unfolding(crate::specs::Parts::composed, crate::specs::Layouts::account_layout))]
 pub fn compose_account(head: &AccountHead, name: &[u8; 26]) -> Result<[u8; 80], Unfit>
     ensures answer { result ≡ composed (account_layout head.now name.now) }
     ensures tells { IfOk result (AccountRecord head.now name.now) }

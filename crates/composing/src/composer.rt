@@ -15,6 +15,7 @@ pub(crate) struct Composer {
     unfit: Option<Unfit>,
 }
 
+// Each method slices its own part, and asks for its room: a `&mut` part of an array handed out by a method gets no proof.
 impl Composer {
     /// No column is filled.
     pub(crate) fn new() -> Composer

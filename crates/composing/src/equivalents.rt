@@ -8,6 +8,7 @@ use crate::refusals::Unfit;
 use values::Equivalent;
 
 /// Composes an equivalent record.
+#[tactic(auto, using(crate::proofs::Building::chain, crate::proofs::Telling::equivalent_told), unfolding(crate::specs::Parts::composed, crate::specs::Layouts::equivalent_layout))]
 pub fn compose_equivalent(equivalent: &Equivalent) -> Result<[u8; 80], Unfit>
     ensures answer { result ≡ composed (equivalent_layout equivalent.now) }
     ensures tells { IfOk result (EquivalentRecord equivalent.now) }

@@ -8,6 +8,7 @@ use crate::refusals::Unfit;
 use records::file_ends::NINES;
 
 /// Composes the file end that comes after so many records.
+#[tactic(auto, using(crate::proofs::Building::chain, crate::proofs::Telling::file_end_told), unfolding(crate::specs::Parts::composed, crate::specs::Layouts::file_end_layout))]
 pub fn compose_file_end(before: u32) -> Result<[u8; 80], Unfit>
     ensures answer { result ≡ composed (file_end_layout before) }
     ensures tells { IfOk result (FileEndRecord before) }

@@ -8,6 +8,7 @@ use crate::refusals::Unfit;
 use values::Movement;
 
 /// Composes a movement record.
+#[tactic(auto, using(crate::proofs::Building::chain), unfolding(crate::specs::Parts::composed, crate::specs::Layouts::movement_layout))]
 pub fn compose_movement(movement: &Movement, reference_2: &[u8; 16]) -> Result<[u8; 80], Unfit>
     ensures answer { result ≡ composed (movement_layout movement.now reference_2.now) }
     ensures tells { IfOk result (MovementRecord movement.now reference_2.now) }

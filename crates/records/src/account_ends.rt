@@ -4,39 +4,36 @@ ghost use Rattle.records.specs.Checks.{judged};
 ghost use Rattle.records.specs.Rules.{same_account_checks, turnover_checks, final_checks, account_end_checks};
 ghost use Rattle.records.specs.Values.{key_at, number_at, account_number_in, account_end_in};
 
-use crate::columns::{Columns, ask, currency, digits, mark, same_number, spaces};
+use crate::columns::{
+    Columns, ENTITY, NUMBER, Number, OFFICE, Short, Wide, ask, currency, digits, mark, same_number,
+    spaces,
+};
 use crate::refusals::{FieldRefusal, Question};
 use values::{AccountEnd, AccountHead, Balance, OpenAccount, Turnover};
 
-const ENTITY: Columns = Columns { from: 3, to: 6 };
+const DEBITS: Number = Columns { from: 21, to: 25 };
 
-const OFFICE: Columns = Columns { from: 7, to: 10 };
+const DEBIT_TOTAL: Number = Columns { from: 26, to: 39 };
 
-const NUMBER: Columns = Columns { from: 11, to: 20 };
+const CREDITS: Number = Columns { from: 40, to: 44 };
 
-const DEBITS: Columns = Columns { from: 21, to: 25 };
+const CREDIT_TOTAL: Number = Columns { from: 45, to: 58 };
 
-const DEBIT_TOTAL: Columns = Columns { from: 26, to: 39 };
+const KEY: Number = Columns { from: 59, to: 59 };
 
-const CREDITS: Columns = Columns { from: 40, to: 44 };
+const AMOUNT: Number = Columns { from: 60, to: 73 };
 
-const CREDIT_TOTAL: Columns = Columns { from: 45, to: 58 };
+const CURRENCY: Short = Columns { from: 74, to: 76 };
 
-const KEY: Columns = Columns { from: 59, to: 59 };
-
-const AMOUNT: Columns = Columns { from: 60, to: 73 };
-
-const CURRENCY: Columns = Columns { from: 74, to: 76 };
-
-const FREE: Columns = Columns { from: 77, to: 80 };
+const FREE: Wide = Columns { from: 77, to: 80 };
 
 // The account end names its account.
 fn same_account(offered: &[u8; 80], head: &AccountHead) -> Result<(), FieldRefusal>
     ensures refusal { result_err result ≡ judged (same_account_checks head.now) offered.now }
     ensures number { OnOk result (head.now.number ≡ account_number_in offered.now) }
 {
-    same_number(offered, ENTITY, u64::from(head.number.entity))?;
-    same_number(offered, OFFICE, u64::from(head.number.office))?;
+    same_number(offered, ENTITY.into(), u64::from(head.number.entity))?;
+    same_number(offered, OFFICE.into(), u64::from(head.number.office))?;
     same_number(offered, NUMBER, head.number.number)
 }
 

@@ -4,29 +4,26 @@ ghost use Rattle.records.specs.Checks.{judged};
 ghost use Rattle.records.specs.Rules.{number_checks, period_checks, account_checks};
 ghost use Rattle.records.specs.Values.{account_number_in, period_in, account_in};
 
-use crate::columns::{Columns, ask, currency, date, digits, mark, short_digits, spaces};
+use crate::columns::{
+    Columns, ENTITY, NUMBER, Number, OFFICE, Short, Wide, ask, currency, date, digits, mark,
+    short_digits, spaces,
+};
 use crate::refusals::{FieldRefusal, Question};
 use values::{AccountHead, AccountNumber, Balance, Period};
 
-const ENTITY: Columns = Columns { from: 3, to: 6 };
+const FIRST_DAY: Short = Columns { from: 21, to: 26 };
 
-const OFFICE: Columns = Columns { from: 7, to: 10 };
+const LAST_DAY: Short = Columns { from: 27, to: 32 };
 
-const NUMBER: Columns = Columns { from: 11, to: 20 };
+const KEY: Number = Columns { from: 33, to: 33 };
 
-const FIRST_DAY: Columns = Columns { from: 21, to: 26 };
+const AMOUNT: Number = Columns { from: 34, to: 47 };
 
-const LAST_DAY: Columns = Columns { from: 27, to: 32 };
+const CURRENCY: Short = Columns { from: 48, to: 50 };
 
-const KEY: Columns = Columns { from: 33, to: 33 };
+const MODALITY: Number = Columns { from: 51, to: 51 };
 
-const AMOUNT: Columns = Columns { from: 34, to: 47 };
-
-const CURRENCY: Columns = Columns { from: 48, to: 50 };
-
-const MODALITY: Columns = Columns { from: 51, to: 51 };
-
-const FREE: Columns = Columns { from: 78, to: 80 };
+const FREE: Wide = Columns { from: 78, to: 80 };
 
 fn account_number(offered: &[u8; 80]) -> Result<AccountNumber, FieldRefusal>
     ensures refusal { result_err result ≡ judged number_checks offered.now }

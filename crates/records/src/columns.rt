@@ -8,19 +8,47 @@ ghost use Rattle.records.specs.Values.{number_at, date_at};
 use crate::refusals::{FieldRefusal, Question};
 use fields::{Date, is_blank, is_common_concept, is_currency, is_reference, read_number};
 
-/// The columns of a field of a record, counted from 1.
+/// The columns of a field of a record, counted from 1: at most `MOST` of them.
 #[derive(Clone, Copy)]
-pub(crate) struct Columns {
+pub(crate) struct Columns<const MOST: usize> {
     pub(crate) from: usize,
     pub(crate) to: usize,
     ghost counted: { 1 ≤ from },
     ghost ordered: { from ≤ to },
     ghost inside: { to ≤ 80 },
+    ghost narrow: { to < from + MOST },
 }
 
+/// A field that no number is read from.
+pub(crate) type Wide = Columns<80>;
+
+/// A field whose number fits in 64 bits.
+pub(crate) type Number = Columns<19>;
+
+/// A field whose number fits in 32 bits.
+pub(crate) type Short = Columns<9>;
+
+impl From<Short> for Number {
+    ghost from_gives = { λ short number. (number.from ≡ short.from) × (number.to ≡ short.to) };
+
+    fn from(short: Short) -> Number {
+        Columns {
+            from: short.from,
+            to: short.to,
+        }
+    }
+}
+
+// The number of an account stands in the same columns of its first record and of its end.
+pub(crate) const ENTITY: Short = Columns { from: 3, to: 6 };
+
+pub(crate) const OFFICE: Short = Columns { from: 7, to: 10 };
+
+pub(crate) const NUMBER: Number = Columns { from: 11, to: 20 };
+
 // The refusal of a field that fails a question.
-fn refused(question: Question, field: Columns) -> FieldRefusal
-    ensures { result ≡ record { question = question; column = field.from } }
+fn refused<const MOST: usize>(question: Question, field: Columns<MOST>) -> FieldRefusal
+    ensures { result ≡ record { question = question; column = field.entry.from } }
 {
     FieldRefusal {
         question,
@@ -29,8 +57,12 @@ fn refused(question: Question, field: Columns) -> FieldRefusal
 }
 
 // A question at a field: it is refused there unless the answer is yes.
-pub(crate) fn ask(question: Question, field: Columns, holds: bool) -> Result<(), FieldRefusal>
-    ensures { result_err result ≡ (if holds then None else Some (record { question = question; column = field.from })) }
+pub(crate) fn ask<const MOST: usize>(
+    question: Question,
+    field: Columns<MOST>,
+    holds: bool,
+) -> Result<(), FieldRefusal>
+    ensures { result_err result ≡ (if holds then None else Some (record { question = question; column = field.entry.from })) }
 {
     if holds {
         Ok(())
@@ -40,8 +72,7 @@ pub(crate) fn ask(question: Question, field: Columns, holds: bool) -> Result<(),
 }
 
 // A number, in digits only.
-pub(crate) fn digits(offered: &[u8; 80], field: Columns) -> Result<u64, FieldRefusal>
-    requires { field.to ≤ field.from + 18 }
+pub(crate) fn digits(offered: &[u8; 80], field: Number) -> Result<u64, FieldRefusal>
     ensures refusal { result_err result ≡ judged (digits_of field.from field.to) offered.now }
     ensures number { IfOk result (λ n. n ≡ number_at field.from field.to offered.now) }
     ensures bound { IfOk result (λ n. n < 10 ^ (field.to - (field.from - 1))) }
@@ -50,19 +81,21 @@ pub(crate) fn digits(offered: &[u8; 80], field: Columns) -> Result<u64, FieldRef
 }
 
 // A number of at most nine digits.
-pub(crate) fn short_digits(offered: &[u8; 80], field: Columns) -> Result<u32, FieldRefusal>
-    requires { field.to ≤ field.from + 8 }
+pub(crate) fn short_digits(offered: &[u8; 80], field: Short) -> Result<u32, FieldRefusal>
     ensures refusal { result_err result ≡ judged (digits_of field.from field.to) offered.now }
     ensures number { IfOk result (λ n. n ≡ number_at field.from field.to offered.now) }
 {
-    let number = digits(offered, field)?;
+    let number = digits(offered, field.into())?;
     Ok(number as u32)
 }
 
 // Spaces only.
 #[tactic(auto, using(crate::proofs::Judging::chain), unfolding(crate::specs::Checks::spaces))]
-pub(crate) fn spaces(offered: &[u8; 80], field: Columns) -> Result<(), FieldRefusal>
-    ensures { result_err result ≡ judged (spaces_of field.from field.to) offered.now }
+pub(crate) fn spaces<const MOST: usize>(
+    offered: &[u8; 80],
+    field: Columns<MOST>,
+) -> Result<(), FieldRefusal>
+    ensures { result_err result ≡ judged (spaces_of field.entry.from field.entry.to) offered.now }
 {
     ask(
         Question::Form,
@@ -72,9 +105,9 @@ pub(crate) fn spaces(offered: &[u8; 80], field: Columns) -> Result<(), FieldRefu
 }
 
 // A date, which is a real day.
+// These four ask their own tests: a function that takes one needs a clause over any test, and each caller an answer.
 #[tactic(auto, using(crate::proofs::Judging::chain), unfolding(crate::specs::Checks::date, crate::specs::Checks::is_date))]
-pub(crate) fn date(offered: &[u8; 80], field: Columns) -> Result<Date, FieldRefusal>
-    requires { field.to ≤ field.from + 8 }
+pub(crate) fn date(offered: &[u8; 80], field: Short) -> Result<Date, FieldRefusal>
     ensures refusal { result_err result ≡ judged (date_of field.from field.to) offered.now }
     ensures day { IfOk result (λ d. d ≡ date_at field.from field.to offered.now) }
 {
@@ -85,10 +118,9 @@ pub(crate) fn date(offered: &[u8; 80], field: Columns) -> Result<Date, FieldRefu
     Ok(date)
 }
 
-// A code of the currencies. One function for both lists would take the list, its test and its clause, and is no plainer.
+// A code of the currencies.
 #[tactic(auto, using(crate::proofs::Judging::chain), unfolding(crate::specs::Checks::currency, crate::specs::Checks::is_currency))]
-pub(crate) fn currency(offered: &[u8; 80], field: Columns) -> Result<u32, FieldRefusal>
-    requires { field.to ≤ field.from + 8 }
+pub(crate) fn currency(offered: &[u8; 80], field: Short) -> Result<u32, FieldRefusal>
     ensures refusal { result_err result ≡ judged (currency_of field.from field.to) offered.now }
     ensures code { IfOk result (λ n. n ≡ number_at field.from field.to offered.now) }
 {
@@ -99,8 +131,7 @@ pub(crate) fn currency(offered: &[u8; 80], field: Columns) -> Result<u32, FieldR
 
 // A code of the common concepts.
 #[tactic(auto, using(crate::proofs::Judging::chain), unfolding(crate::specs::Checks::common_concept, crate::specs::Checks::is_common_concept))]
-pub(crate) fn common_concept(offered: &[u8; 80], field: Columns) -> Result<u32, FieldRefusal>
-    requires { field.to ≤ field.from + 8 }
+pub(crate) fn common_concept(offered: &[u8; 80], field: Short) -> Result<u32, FieldRefusal>
     ensures refusal { result_err result ≡ judged (concept_of field.from field.to) offered.now }
     ensures code { IfOk result (λ n. n ≡ number_at field.from field.to offered.now) }
 {
@@ -111,8 +142,7 @@ pub(crate) fn common_concept(offered: &[u8; 80], field: Columns) -> Result<u32, 
 
 // A reference that ends in its check digit.
 #[tactic(auto, using(crate::proofs::Judging::chain), unfolding(crate::specs::Checks::reference, crate::specs::Checks::has_check_digit))]
-pub(crate) fn reference(offered: &[u8; 80], field: Columns) -> Result<u64, FieldRefusal>
-    requires { field.to ≤ field.from + 18 }
+pub(crate) fn reference(offered: &[u8; 80], field: Number) -> Result<u64, FieldRefusal>
     ensures refusal { result_err result ≡ judged (reference_of field.from field.to) offered.now }
     ensures number { IfOk result (λ n. n ≡ number_at field.from field.to offered.now) }
 {
@@ -122,10 +152,9 @@ pub(crate) fn reference(offered: &[u8; 80], field: Columns) -> Result<u64, Field
 }
 
 // What one digit stands for.
-pub(crate) fn mark<T: TryFrom<u64>>(offered: &[u8; 80], field: Columns) -> Result<T, FieldRefusal>
+pub(crate) fn mark<T: TryFrom<u64>>(offered: &[u8; 80], field: Number) -> Result<T, FieldRefusal>
 where
     T::Error: Drop,
-    requires { field.to ≤ field.from + 18 }
     ensures { IsMark T.try_from_gives field.from field.to offered.now result }
 {
     let digit = digits(offered, field)?;
@@ -135,10 +164,9 @@ where
 // A number that must be the one expected.
 pub(crate) fn same_number(
     offered: &[u8; 80],
-    field: Columns,
+    field: Number,
     expected: u64,
 ) -> Result<(), FieldRefusal>
-    requires { field.to ≤ field.from + 18 }
     ensures refusal { result_err result ≡ judged (same field.from field.to expected) offered.now }
     ensures number { OnOk result (expected ≡ number_at field.from field.to offered.now) }
 {

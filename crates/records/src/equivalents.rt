@@ -4,17 +4,17 @@ ghost use Rattle.records.specs.Checks.{judged};
 ghost use Rattle.records.specs.Rules.{equivalent_checks};
 ghost use Rattle.records.specs.Values.{equivalent_in};
 
-use crate::columns::{Columns, ask, currency, digits, spaces};
+use crate::columns::{Columns, Number, Short, Wide, ask, currency, digits, spaces};
 use crate::refusals::{FieldRefusal, Question};
 use values::{AccountHead, Equivalent};
 
-const SEQUENCE: Columns = Columns { from: 3, to: 4 };
+const SEQUENCE: Number = Columns { from: 3, to: 4 };
 
-const CURRENCY: Columns = Columns { from: 5, to: 7 };
+const CURRENCY: Short = Columns { from: 5, to: 7 };
 
-const AMOUNT: Columns = Columns { from: 8, to: 21 };
+const AMOUNT: Number = Columns { from: 8, to: 21 };
 
-const FREE: Columns = Columns { from: 22, to: 80 };
+const FREE: Wide = Columns { from: 22, to: 80 };
 
 /// Reads an equivalent record of an account.
 pub fn read_equivalent(offered: &[u8; 80], head: &AccountHead) -> Result<Equivalent, FieldRefusal>

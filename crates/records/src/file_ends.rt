@@ -4,14 +4,14 @@ ghost use Rattle.records.specs.Checks.{judged};
 ghost use Rattle.records.specs.Rules.{file_end_checks};
 ghost use Rattle.records.specs.Values.{number_at};
 
-use crate::columns::{Columns, ask, digits, same_number, spaces};
+use crate::columns::{Columns, Number, Wide, ask, digits, same_number, spaces};
 use crate::refusals::{FieldRefusal, Question};
 
-const FILLER: Columns = Columns { from: 3, to: 20 };
+const FILLER: Number = Columns { from: 3, to: 20 };
 
-const RECORDS: Columns = Columns { from: 21, to: 26 };
+const RECORDS: Number = Columns { from: 21, to: 26 };
 
-const FREE: Columns = Columns { from: 27, to: 80 };
+const FREE: Wide = Columns { from: 27, to: 80 };
 
 /// What columns 3 to 20 of a file end hold.
 pub const NINES: [u8; 18] = *b"999999999999999999";

@@ -5,33 +5,34 @@ ghost use Rattle.records.specs.Rules.{origin_checks, operation_checks, amount_ch
 ghost use Rattle.records.specs.Values.{date_at, key_at, number_at, origin_in, reference_in, movement_in};
 
 use crate::columns::{
-    Columns, ask, common_concept, date, digits, mark, reference, short_digits, spaces,
+    Columns, Number, Short, Wide, ask, common_concept, date, digits, mark, reference, short_digits,
+    spaces,
 };
 use crate::refusals::{FieldRefusal, Question};
 use fields::{Date, Modality};
 use values::{Balance, Movement, OpenAccount, Period};
 
-const FREE: Columns = Columns { from: 3, to: 6 };
+const FREE: Wide = Columns { from: 3, to: 6 };
 
-const ORIGIN: Columns = Columns { from: 7, to: 10 };
+const ORIGIN: Short = Columns { from: 7, to: 10 };
 
-const OPERATION: Columns = Columns { from: 11, to: 16 };
+const OPERATION: Short = Columns { from: 11, to: 16 };
 
-const VALUE: Columns = Columns { from: 17, to: 22 };
+const VALUE: Short = Columns { from: 17, to: 22 };
 
-const COMMON: Columns = Columns { from: 23, to: 24 };
+const COMMON: Short = Columns { from: 23, to: 24 };
 
-const OWN: Columns = Columns { from: 25, to: 27 };
+const OWN: Short = Columns { from: 25, to: 27 };
 
-const KEY: Columns = Columns { from: 28, to: 28 };
+const KEY: Number = Columns { from: 28, to: 28 };
 
-const AMOUNT: Columns = Columns { from: 29, to: 42 };
+const AMOUNT: Number = Columns { from: 29, to: 42 };
 
-const DOCUMENT: Columns = Columns { from: 43, to: 52 };
+const DOCUMENT: Number = Columns { from: 43, to: 52 };
 
-const REFERENCE: Columns = Columns { from: 53, to: 64 };
+const REFERENCE: Number = Columns { from: 53, to: 64 };
 
-const SECOND_REFERENCE: Columns = Columns { from: 65, to: 80 };
+const SECOND_REFERENCE: Wide = Columns { from: 65, to: 80 };
 
 // The office that a movement came from is told in modalities 2 and 3.
 fn origin(offered: &[u8; 80], modality: Modality) -> Result<Option<u32>, FieldRefusal>

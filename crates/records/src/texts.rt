@@ -4,10 +4,10 @@ ghost use Rattle.records.specs.Checks.{judged};
 ghost use Rattle.records.specs.Rules.{text_checks};
 ghost use Rattle.records.specs.Values.{number_at};
 
-use crate::columns::{Columns, ask, short_digits};
+use crate::columns::{Columns, Short, ask, short_digits};
 use crate::refusals::{FieldRefusal, Question};
 
-const SEQUENCE: Columns = Columns { from: 3, to: 4 };
+const SEQUENCE: Short = Columns { from: 3, to: 4 };
 
 /// Reads the sequence of a text record that comes after so many other texts of its movement.
 pub fn read_text(offered: &[u8; 80], texts: u8) -> Result<u32, FieldRefusal>

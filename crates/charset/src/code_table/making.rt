@@ -33,9 +33,7 @@ impl CodeTable {
         ensures answer { result ≡ making bytes.now }
         ensures table { Made self.old bytes.now self.new result }
     {
-        let Ok(listed) = <[u8; CHARACTER_COUNT]>::try_from(bytes) else {
-            return Err(CodeTableRefusal::Length);
-        };
+        let listed: [u8; CHARACTER_COUNT] = bytes.try_into().map_err(|_| CodeTableRefusal::Length)?;
         *self = CodeTable::of_bytes(listed)?;
         Ok(())
     }

@@ -23,6 +23,7 @@ pub enum CodePage {
     Page284,
 }
 
+/// The code table of a page.
 impl From<CodePage> for CodeTable {
     ghost from_gives = { λ page table. bytes_of table ≡ page_bytes page };
 

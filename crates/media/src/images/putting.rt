@@ -65,9 +65,7 @@ impl<'a> Output for Image<'a> {
         ensures writes { Writes self.old self.new offered.now result }
         ensures lent { self.new.bytes.ghost_name ≡ self.old.bytes.ghost_name }
     {
-        let Some(text) = encode_record(&self.table, offered) else {
-            return Err(PutRefusal::NotARecord);
-        };
+        let text = encode_record(&self.table, offered).ok_or(PutRefusal::NotARecord)?;
         if self.places() == 0 {
             return Err(PutRefusal::NoPlace);
         }

@@ -91,21 +91,20 @@ fn record_at(
     if !framing.is_line_end(&rest[RECORD_LENGTH..stride]) {
         return Err(VolumeFault::Frame(place + RECORD_LENGTH));
     }
-    Ok(Some(decode_record(table, &rest[0..RECORD_LENGTH], place)?))
+    let text = rest[0..RECORD_LENGTH].try_into().unwrap();
+    Ok(Some(decode_record(table, text, place)?))
 }
 
 // The characters that 80 bytes read as; `place` is the byte place of the first.
 fn decode_record(
     table: &CodeTable,
-    text: &[u8],
+    text: [u8; RECORD_LENGTH],
     place: usize,
 ) -> Result<[u8; RECORD_LENGTH], VolumeFault>
-    requires long { length text.now ≡ 80 }
-    requires fits { place + 80 < 2 ^ 64 }
-    ensures { Decodes table.now text.now place result }
+    requires { place + 80 < 2 ^ 64 }
+    ensures { Decodes table.now text place result }
 {
-    let mut characters = [b' '; RECORD_LENGTH];
-    characters.copy_from_slice(text);
+    let mut characters = text;
     for (i, character) in characters.iter_mut().enumerate() {
         *character = table
             .decode(*character)
