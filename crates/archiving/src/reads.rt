@@ -20,14 +20,12 @@ pub struct Counts {
     pub texts: usize,
 }
 
-// Offers the record of this number to the reading, and enters it.
+// Offers a record to the reading, and enters it.
 fn take(
     reading: &mut Reading,
     tables: &mut Tables<'_>,
     offered: &[u8; 80],
-    number: u32,
 ) -> Result<(), ReadRefusal>
-    requires number { number ≡ (progress reading.old).taken + 1 }
     requires movements { movements_of (rows_in tables.old).accounts ≤ (progress reading.old).taken }
     requires texts { texts_of (rows_in tables.old).movements ≤ (progress reading.old).taken }
     ensures answer { result_err result ≡ stopping (room_in tables.old) (progress reading.old) (rows_in tables.old) offered.now }
@@ -35,6 +33,7 @@ fn take(
     ensures reading { OnOk result (progress reading.new ≡ after (progress reading.old) offered.now) }
     ensures count { OnOk result ((progress reading.new).taken ≡ (progress reading.old).taken + 1) }
 {
+    let number = reading.taken() + 1;
     let entry = reading.offer(offered)?;
     enter(tables, &entry).map_err(|table| ReadRefusal::NoRow(table, number))
 }
@@ -51,13 +50,11 @@ pub fn read<C: Carrier>(carrier: &mut C, tables: &mut Tables<'_>) -> Result<Coun
     tables.clear();
     let mut reading = Reading::new();
     let mut offered = [b' '; 80];
-    let mut number = 1;
     while carrier
         .draw(&mut offered)
-        .map_err(|fault| ReadRefusal::Carrier(fault, number))?
+        .map_err(|fault| ReadRefusal::Carrier(fault, reading.taken() + 1))?
     {
-        take(&mut reading, tables, &offered, number)?;
-        number += 1;
+        take(&mut reading, tables, &offered)?;
     }
     reading.close()?;
     Ok(Counts {

@@ -25,6 +25,7 @@ impl From<Refusal> for ReadRefusal {
     }
 }
 
+/// What a refusal to read tells.
 impl From<ReadRefusal> for Notice {
     ghost from_gives = { λ refusal notice. notice ≡ read_notice refusal };
 

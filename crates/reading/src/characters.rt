@@ -4,7 +4,7 @@ ghost use Rattle.reading.specs.Offers.{first_bad};
 use charset::is_character;
 
 /// The index of the first byte that is no character.
-// A loop that counts the index, as the rules for this question ask.
+// The rules ask for a loop with an index here.
 pub fn first_bad(bytes: &[u8]) -> Option<usize>
     ensures index { result ≡ first_bad bytes.now 0 }
     ensures bound { IfSome result (λ i. i < length bytes.now) }

@@ -1,6 +1,6 @@
 ghost use Rattle.std.specs.Prelude.{◌≡◌};
 ghost use Rattle.reading.specs.Limits.{texts_of};
-ghost use Rattle.reading.specs.Phases.{next, more_texts};
+ghost use Rattle.reading.specs.Phases.{next};
 
 use crate::kinds::Kind;
 
@@ -49,20 +49,11 @@ impl Phase {
             (Phase::Opened | Phase::Texts(_) | Phase::Converted, Kind::AccountEnd) => Some(
                 Phase::Between,
             ),
-            (Phase::Texts(texts), Kind::Text) => more_texts(texts),
+            (Phase::Texts(texts), Kind::Text) if texts < MOST_TEXTS => Some(Phase::Texts(
+                texts + 1,
+            )),
             (Phase::Texts(_), Kind::Equivalent) => Some(Phase::Converted),
             _ => None,
         }
-    }
-}
-
-// One text more, unless the movement has its five.
-fn more_texts(texts: u8) -> Option<Phase>
-    ensures { result ≡ more_texts texts }
-{
-    if texts < MOST_TEXTS {
-        Some(Phase::Texts(texts + 1))
-    } else {
-        None
     }
 }

@@ -19,3 +19,16 @@ pub struct Reading {
     ghost credits: { account.credits.count ≤ 99999 },
     ghost credited: { account.credits.total ≤ 99999999999999 },
 }
+
+impl Reading {
+    ghost use Rattle.std.specs.Prelude.{◌≡◌, ◌≤◌};
+    ghost use Rattle.reading.specs.Progress.{progress};
+
+    /// How many records it has taken.
+    pub fn taken(&self) -> u32
+        ensures value { result ≡ (progress self.now).taken }
+        ensures bound { result ≤ 1000000 }
+    {
+        self.taken
+    }
+}

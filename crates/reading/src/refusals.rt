@@ -37,6 +37,7 @@ pub struct Told {
     /// A number and no enum: the rules number refusals, and two causes have the number 8.
     pub number: u16,
     pub record: u32,
+    // 0 and no Option where there is none: the rules tell 0 there.
     pub column: u8,
 }
 

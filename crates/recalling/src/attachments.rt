@@ -9,6 +9,7 @@ mod composing_on;
 #[derive(Clone, Copy)]
 pub(crate) struct Attachments<'a> {
     texts: &'a [TextRow],
+    // A count beside the texts: an enumerated iterator counts in usize, wider than a sequence, and cannot be copied.
     came: u32,
     equivalent: Option<Equivalent>,
     ghost numbered: { came + length texts.now < 2 ^ 32 },

@@ -11,18 +11,17 @@ use composing::{Unfit, compose_file_end};
 use reading::Reading;
 use rows::Statement;
 
-// Offers a composed record to a reading that has taken so many.
+// Offers a composed record to a reading.
 fn offer_composed(
     reading: &mut Reading,
-    taken: u32,
     composed: Result<[u8; 80], Unfit>,
 ) -> Result<(), TableRefusal>
-    requires { taken ≡ (progress reading.old).taken }
     ensures refusal { result_err result ≡ trying (progress reading.old) composed }
     ensures after { OnOk result (progress reading.new ≡ after_record (progress reading.old) (made_or_none composed)) }
-    ensures one_more { OnOk result ((progress reading.new).taken ≡ taken + 1) }
+    ensures one_more { OnOk result ((progress reading.new).taken ≡ (progress reading.old).taken + 1) }
 {
-    let characters = composed.map_err(|unfit| TableRefusal::Unfit(taken + 1, unfit.column))?;
+    let number = reading.taken() + 1;
+    let characters = composed.map_err(|unfit| TableRefusal::Unfit(number, unfit.column))?;
     reading.offer(&characters)?;
     Ok(())
 }
@@ -32,13 +31,12 @@ fn offer_all(statement: &Statement) -> Result<u32, TableRefusal>
     ensures { result ≡ offering (rows_lent statement.now) }
 {
     let mut reading = Reading::new();
-    let mut taken = 0;
     for composed in Composition::new(statement) {
-        offer_composed(&mut reading, taken, composed)?;
-        taken += 1;
+        offer_composed(&mut reading, composed)?;
     }
-    offer_composed(&mut reading, taken, compose_file_end(taken))?;
-    Ok(taken + 1)
+    let file_end = compose_file_end(reading.taken());
+    offer_composed(&mut reading, file_end)?;
+    Ok(reading.taken())
 }
 
 /// Whether the tables are a statement: how many records it has, or why they are none.

@@ -6,6 +6,7 @@ use crate::refusals::TableRefusal;
 use rows::{AccountRow, MovementRow, Statement};
 
 // How many movements the accounts have. One function for both counts would take a closure and clauses for it.
+#[tactic(auto, using(crate::proofs::Counting::sum_is))]
 fn movements_of(accounts: &[AccountRow]) -> u128
     ensures { result ≡ movements_of accounts.now }
 {
@@ -13,6 +14,7 @@ fn movements_of(accounts: &[AccountRow]) -> u128
 }
 
 // How many texts the movements have.
+#[tactic(auto, using(crate::proofs::Counting::sum_is))]
 fn texts_of(movements: &[MovementRow]) -> u128
     ensures { result ≡ texts_of movements.now }
 {

@@ -1,4 +1,4 @@
-use Rattle.std.proofs.Common.{◌≡◌, Ok, Err, sym, refl, ap, ◌∙◌, subst, arith, rules}
+use Rattle.std.proofs.Common.{◌≡◌, ◌+◌, Ok, Err, sym, refl, ap, ◌∙◌, subst, rules}
 use Rattle.std.proofs.lemmas.Result.{err_from_is_err_and}
 use Rattle.reading.specs.Progress.{progress}
 use Rattle.reading.proofs.Progress.{new_at_start}
@@ -14,14 +14,14 @@ pub loop-reading-init : goal.loop-reading-init
 loop-reading-init g c =
     let t = c.clear.new.self in
     let nothing = subst (Holds t t) (holds_is _ t _ c.clear.ensures) (still t) in
-    (start _ _ _ _ _ (new_at_start _ c.new-reading.ensures) nothing, omega (arith, c.new-reading.ensures.none_taken), refl, refl)
+    (start _ _ _ _ _ (new_at_start _ c.new-reading.ensures) nothing, refl, refl)
 
 -- a fault is told with the number of the record that would come
-told : (g : Over) (c : After-map_err g) → c.map_err.result ≡ told_as (λ fault. Carrier fault c.loop-reading.number) c.draw.result
-told g c = told_by (λ fault. Carrier fault c.loop-reading.number) _ (λ fault x told. search rules) c.draw.result c.map_err.result c.map_err.ensures.cases
+told : (g : Over) (c : After-map_err g) → c.map_err.result ≡ told_as (λ fault. Carrier fault ((progress c.loop-reading.reading).taken + 1)) c.draw.result
+told g c = told_by _ _ (λ fault x told. search rules) c.draw.result c.map_err.result c.map_err.ensures.cases
 
 drawn_ok : (g : Over) (c : In_ok-map_err g) → c.draw.result ≡ Ok c.in_ok-map_err.field-0
-drawn_ok g c = told_ok (λ fault. Carrier fault c.loop-reading.number) c.draw.result _ (sym (told g (goal.at.In_ok-map_err g c).After-map_err) ∙ c.in_ok-map_err.was)
+drawn_ok g c = told_ok _ c.draw.result _ (sym (told g (goal.at.In_ok-map_err g c).After-map_err) ∙ c.in_ok-map_err.was)
 
 pub loop-reading-preserved : goal.loop-reading-preserved
 loop-reading-preserved g c =
@@ -29,7 +29,7 @@ loop-reading-preserved g c =
     let record_there = drawn_ok g (goal.at.loop-reading-preserved g c).In_ok-map_err ∙ ap Ok c.if-branch.true in
     let left = drew _ _ _ _ _ _ record_there c.draw.ensures.drawn in
     let took = c.in_ok-take.ensures in
-    (more inv.0 c.take.new.tables (progress c.take.new.reading) c.draw.new.into (g.C.Carrier.records c.draw.new.self) left took.answer took.tables took.reading took.count, omega (arith, inv.1, took.count), c.draw.ensures.ending ∙ inv.2, c.draw.ensures.volumes ∙ inv.3)
+    (more inv.0 c.take.new.tables (progress c.take.new.reading) c.draw.new.into (g.C.Carrier.records c.draw.new.self) left took.answer took.tables took.reading took.count, c.draw.ensures.ending ∙ inv.1, c.draw.ensures.volumes ∙ inv.2)
 
 -- stopped at a record
 pub returns-in_err-take : goal.returns-in_err-take
@@ -41,4 +41,4 @@ returns-in_err-take g c =
     let stop = c.in_err-take.ensures in
     let s = stopped inv.0 c.take.new.tables c.draw.new.into (g.C.Carrier.records c.draw.new.self) c.in_err-take.field-0.0 left stop.answer stop.tables in
     let o = come_to c.args.tables.now c.clear.new.self c.take.new.tables _ _ _ c.clear.ensures s.0 s.1 in
-    record { answer = r.1 ∙ (ap Err r.2 ∙ o.0); tables = o.1; left = o.2; ending = c.draw.ensures.ending ∙ inv.2; volumes = c.draw.ensures.volumes ∙ inv.3 }
+    record { answer = r.1 ∙ (ap Err r.2 ∙ o.0); tables = o.1; left = o.2; ending = c.draw.ensures.ending ∙ inv.1; volumes = c.draw.ensures.volumes ∙ inv.2 }

@@ -1,4 +1,4 @@
-use Rattle.std.proofs.Common.{Some, None, sym, ap, ◌∙◌, subst, rules}
+use Rattle.std.proofs.Common.{◌+◌, Some, sym, ap, ◌∙◌, subst, rules}
 use Rattle.std.specs.Result.{result_err}
 use Rattle.std.proofs.lemmas.Result.{err_from_is_err_and}
 use Rattle.reading.specs.Progress.{progress}
@@ -6,7 +6,7 @@ use Rattle.reading.proofs.Progress.{refused_is, moved_after}
 use Rattle.rows.specs.Tables.{rows_in, room_in, Holds}
 use Rattle.archiving.proofs.Taking.{whole, entered_by, stopped_by, refused_by, told_by, stop_told, granted_told, on_any}
 use Rattle.archiving.specs.Entering.{granted}
-use Rattle.archiving.specs.Reads.{entered, unless_taken}
+use Rattle.archiving.specs.Reads.{entered}
 use Rattle.archiving.specs.declared.refusals.ReadRefusal.TheVariants.{NoRow}
 use Rattle.archiving.proofs.reads.take.Goals as goal
 
@@ -27,7 +27,7 @@ returns c =
     let t = c.args.tables.now in
     let o = c.args.offered.now in
     let e = c.in_ok-entry.entry in
-    let n = c.args.number in
+    let n = (progress s).taken + 1 in
     let said = c.in_ok-entry.ensures in
     let is = said.after.kind_there in
     let rows = rows_in t in
@@ -35,7 +35,7 @@ returns c =
     let stop = stopped_by (progress s) o e rows is (room_in t) (said.refusal ∙ refused_is s o) (result_err c.enter.result) c.enter.ensures.answer in
     let held = ap (λ r. granted c.enter.result r rows) (entered_by (progress s) o e rows is said.tells) ∙ (sym (granted_told (λ table. NoRow table n) c.enter.result _ _) ∙ ap (λ a. granted a (entered (progress s) o rows) rows) (sym answered)) in
     record {
-      answer = ap result_err answered ∙ (stop_told n c.enter.result ∙ (ap (λ k. unless_taken k None (result_err c.enter.result)) c.requires.number ∙ stop));
+      answer = ap result_err answered ∙ (stop_told n c.enter.result ∙ stop);
       tables = subst (Holds t c.enter.new.tables) held c.enter.ensures.tables;
       reading = on_any c.map_err.result (moved_after s _ o _ said.after);
       count = on_any c.map_err.result said.after.one_more;

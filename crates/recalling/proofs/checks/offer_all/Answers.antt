@@ -1,4 +1,5 @@
-use Rattle.std.proofs.Common.{map, sym, ap, ◌∙◌}
+use Rattle.std.proofs.Common.{Ok, map, sym, ap, ◌∙◌}
+use Rattle.composing.specs.Layouts.{file_end_layout}
 use Rattle.composing.specs.Parts.{composed}
 use Rattle.reading.proofs.Progress.{new_at_start}
 use Rattle.recalling.specs.Remaining.{left}
@@ -10,4 +11,6 @@ loop-composed-init c = start _ _ _ (new_at_start _ c.new-reading.ensures) c.new-
 
 pub returns : goal.returns
 returns c =
-    sym (taken_all _ _ _ _ _ c.loop-composed.invariant c.in-None.ensures.steps.0 c.compose_file_end.ensures.answer c.in_ok-offer_composed-2.ensures.refusal)
+    let end = c.compose_file_end-file_end.ensures.answer ∙ ap (λ n. composed (file_end_layout n)) c.taken.ensures.value in
+    let many = c.taken-2.ensures.value ∙ c.in_ok-offer_composed-2.ensures.one_more in
+    ap Ok many ∙ sym (taken_all _ _ _ _ c.loop-composed.invariant c.in-None.ensures.steps.0 end c.in_ok-offer_composed-2.ensures.refusal)

@@ -5,4 +5,4 @@ use Rattle.recalling.proofs.Midway.{Midway}
 use Rattle.recalling.proofs.checks.offer_all.Given as goal
 
 abbrev pub invariant-loop-composed : goal.invariant-loop-composed
-invariant-loop-composed l = Midway (rows_lent l.statement) (progress l.reading) l.taken (left l.composed-iterator)
+invariant-loop-composed l = Midway (rows_lent l.statement) (progress l.reading) (left l.composed-iterator)
