@@ -4,11 +4,13 @@ ghost use Rattle.charset.specs.Tables.{making, Makes, Made};
 use crate::characters::{CHARACTER_COUNT, CHARACTERS};
 use crate::{CodeTable, CodeTableRefusal};
 
-impl CodeTable {
-    // The code table of 57 bytes, unless one comes twice.
-    pub(super) fn of_bytes(bytes: [u8; CHARACTER_COUNT]) -> Result<CodeTable, CodeTableRefusal>
-        ensures { Makes bytes result }
-    {
+/// The code table of 57 bytes, unless one comes twice.
+impl TryFrom<[u8; CHARACTER_COUNT]> for CodeTable {
+    type Error = CodeTableRefusal;
+
+    ghost try_from_gives = { Makes };
+
+    fn try_from(bytes: [u8; CHARACTER_COUNT]) -> Result<CodeTable, CodeTableRefusal> {
         let mut decoding = [None; 256];
         let mut encoding = [None; 256];
         for (place, &byte) in bytes.iter().enumerate() {
@@ -26,7 +28,9 @@ impl CodeTable {
             encoding,
         })
     }
+}
 
+impl CodeTable {
     /// Makes this the code table of a list of bytes, one for each character in the fixed order.
     /// A list that is refused leaves it as it was.
     pub fn make(&mut self, bytes: &[u8]) -> Result<(), CodeTableRefusal>
@@ -34,7 +38,7 @@ impl CodeTable {
         ensures table { Made self.old bytes.now self.new result }
     {
         let listed: [u8; CHARACTER_COUNT] = bytes.try_into().map_err(|_| CodeTableRefusal::Length)?;
-        *self = CodeTable::of_bytes(listed)?;
+        *self = CodeTable::try_from(listed)?;
         Ok(())
     }
 }

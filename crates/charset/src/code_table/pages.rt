@@ -29,8 +29,8 @@ impl From<CodePage> for CodeTable {
 
     fn from(page: CodePage) -> CodeTable {
         match page {
-            CodePage::Page850 => CodeTable::of_bytes(CHARACTERS).unwrap(),
-            CodePage::Page284 => CodeTable::of_bytes(EBCDIC_284).unwrap(),
+            CodePage::Page850 => CodeTable::try_from(CHARACTERS).unwrap(),
+            CodePage::Page284 => CodeTable::try_from(EBCDIC_284).unwrap(),
         }
     }
 }

@@ -34,7 +34,8 @@ impl<'a> Image<'a> {
 
     // Writes bytes at a place behind the position.
     fn write_behind(&mut self, place: usize, part: &[u8])
-        requires { (self.old.position ≤ place) × (place + length part.now ≤ length self.old.bytes.now) }
+        requires position { self.old.position ≤ place }
+        requires room { place + length part.now ≤ length self.old.bytes.now }
         ensures behind { Behind self.old self.new place part.now }
         ensures lent { self.new.bytes.ghost_name ≡ self.old.bytes.ghost_name }
     {

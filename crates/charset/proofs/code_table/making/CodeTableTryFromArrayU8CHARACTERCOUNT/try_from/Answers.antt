@@ -1,7 +1,7 @@
 use Rattle.std.proofs.Common.{◌≡◌, ◌<◌, length, get_or, sym, refl, ap, arith, rules}
 use Rattle.charset.specs.Tables.{repeated}
 use Rattle.charset.specs.Characters.{characters}
-use Rattle.charset.proofs.code_table.CodeTable.of_bytes.Goals as goal
+use Rattle.charset.proofs.code_table.making.CodeTableTryFromArrayU8CHARACTERCOUNT.try_from.Goals as goal
 use Rattle.charset.proofs.Filling.{none, more, came_before}
 
 pub returns-then-is_some : goal.returns-then-is_some
