@@ -1,10 +1,11 @@
 use crate::answers::show_carrier;
-use crate::sample::{file, volume};
+use crate::sample::{file, put, volume};
 use media::{Framing, Joined};
 use std::alloc::{AllocError, Global};
 use std::fmt;
 
 /// The sample with a space behind it is cut to a length, and the byte at a place is changed.
+// media_cases has cases of this shape over bytes of its own; a crate for both is no plainer.
 #[derive(Clone, Copy)]
 struct Damage(usize, usize, u8);
 
@@ -21,9 +22,7 @@ impl Damage {
         let Damage(length, place, byte) = self;
         let mut bytes = file(heap, framing)?;
         bytes.push(b' ')?;
-        if let Some(changed) = bytes.get_mut(place) {
-            *changed = byte;
-        }
+        put(&mut bytes, place, byte);
         bytes.truncate(length);
         Ok(bytes)
     }

@@ -1,4 +1,5 @@
 use crate::rooms::Room;
+use crate::sample::put;
 use fields::{Date, Key, Modality};
 use rows::{AccountRow, MovementRow, TextRow};
 use std::alloc::AllocError;
@@ -120,11 +121,5 @@ fn change_text(row: &mut TextRow, place: usize, byte: u8) {
         put(&mut row.first, place, byte);
     } else {
         put(&mut row.second, place - 38, byte);
-    }
-}
-
-fn put(bytes: &mut [u8], place: usize, byte: u8) {
-    if let Some(changed) = bytes.get_mut(place) {
-        *changed = byte;
     }
 }

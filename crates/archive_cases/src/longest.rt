@@ -3,13 +3,11 @@ use crate::sample::{image, volume};
 use archiving::read;
 use media::Framing;
 use recalling::{check_tables, write};
-use rows::accounts::UNUSED_ACCOUNT;
-use rows::movements::UNUSED_MOVEMENT;
 use rows::texts::UNUSED_TEXT;
-use rows::{AccountRow, MovementRow, Notice, Statement, Tables, TextRow};
+use rows::{AccountRow, Notice, RowStore, Statement, Tables};
 use std::alloc::{AllocError, Global};
 
-// The records of this program's own case; reading_cases has a file whose amounts differ.
+// Three of these stand in reading_cases too: a crate for three lines is no plainer.
 const HEAD: &[u8] =
     b"119999000100000000012603012603312000000000000009781PRUEBA                       ";
 
@@ -40,26 +38,32 @@ const MOVEMENTS: usize = 999_988;
 pub fn show(rt: &HostRuntime) -> anyhow::Result<()> {
     println!(rt; "the longest file")?;
     let file = longest(rt.alloc())?;
-    let mut accounts = [UNUSED_ACCOUNT; 6];
-    let mut movements = vec![in rt.alloc(); UNUSED_MOVEMENT; MOVEMENTS]?;
-    let mut texts = [UNUSED_TEXT; 2];
+    let mut store = RowStore::new(rt.alloc(), 6, MOVEMENTS, 2)?;
     print!(rt; "a row too few: ")?;
-    let few = &mut movements[0..MOVEMENTS - 1];
-    show_read(rt, &file, &mut Tables::new(&mut accounts, few, &mut texts))?;
-    print!(rt; "enough rows: ")?;
+    let (few, _) = store
+        .movements
+        .split_at_mut(store.movements.len().saturating_sub(1));
     show_read(
         rt,
         &file,
-        &mut Tables::new(&mut accounts, &mut movements, &mut texts),
+        &mut Tables::new(&mut store.accounts, few, &mut store.texts),
     )?;
-    let statement = Statement {
-        accounts: &accounts[0..5],
-        movements: &movements,
-        texts: &texts[0..1],
-    };
-    show_writes(rt, &file, &statement)?;
-    show_accounts(rt, &accounts, &movements, &texts)?;
-    show_texts(rt, &accounts, &mut movements, &texts)
+    print!(rt; "enough rows: ")?;
+    show_read(rt, &file, &mut store.tables())?;
+    store.accounts.truncate(5);
+    store.texts.truncate(1);
+    show_writes(rt, &file, &statement(&store))?;
+    show_accounts(rt, &statement(&store))?;
+    show_texts(rt, &mut store)
+}
+
+// These rows as the filled rows of tables.
+fn statement(store: &RowStore) -> Statement<'_> {
+    Statement {
+        accounts: &store.accounts,
+        movements: &store.movements,
+        texts: &store.texts,
+    }
 }
 
 // Four accounts of the most debits and credits, and one that fills the file to its last record.
@@ -110,59 +114,57 @@ fn show_write(rt: &HostRuntime, statement: &Statement, bytes: &mut [u8]) -> anyh
 }
 
 // The first account gets a debit of the second; and a sixth account comes behind the fifth.
-fn show_accounts(
-    rt: &HostRuntime,
-    accounts: &[AccountRow; 6],
-    movements: &[MovementRow],
-    texts: &[TextRow; 2],
-) -> anyhow::Result<()> {
-    let mut more = *accounts;
-    more[0].movements = 199_999;
-    more[1].movements = 199_997;
+fn show_accounts(rt: &HostRuntime, statement: &Statement) -> anyhow::Result<()> {
+    let mut accounts = Vec::from_slice(rt.alloc(), statement.accounts)?;
+    if let [first, second, ..] = accounts.as_mut_slice() {
+        first.movements = 199_999;
+        second.movements = 199_997;
+    }
     print!(rt; "a debit too many: ")?;
-    show_check(rt, &more[0..5], movements, &texts[0..1])?;
-    let mut more = *accounts;
-    more[5] = AccountRow {
-        movements: 0,
-        ..more[0]
-    };
+    show_check(
+        rt,
+        &Statement {
+            accounts: &accounts,
+            ..*statement
+        },
+    )?;
+    let mut accounts = Vec::from_slice(rt.alloc(), statement.accounts)?;
+    if let Some(first) = statement.accounts.first() {
+        accounts.push(AccountRow {
+            movements: 0,
+            ..*first
+        })?;
+    }
     print!(rt; "an account too many: ")?;
-    show_check(rt, &more, movements, &texts[0..1])
+    show_check(
+        rt,
+        &Statement {
+            accounts: &accounts,
+            ..*statement
+        },
+    )
 }
 
 // The last movement gets a second text, and then none.
-fn show_texts(
-    rt: &HostRuntime,
-    accounts: &[AccountRow; 6],
-    movements: &mut [MovementRow],
-    texts: &[TextRow; 2],
-) -> anyhow::Result<()> {
-    count_texts(movements, 2);
+fn show_texts(rt: &HostRuntime, store: &mut RowStore) -> anyhow::Result<()> {
+    count_texts(store, 2);
+    store.texts.push(UNUSED_TEXT)?;
     print!(rt; "a text too many: ")?;
-    show_check(rt, &accounts[0..5], movements, texts)?;
-    count_texts(movements, 0);
+    show_check(rt, &statement(store))?;
+    count_texts(store, 0);
+    store.texts.clear();
     print!(rt; "a text fewer: ")?;
-    show_check(rt, &accounts[0..5], movements, &[])
+    show_check(rt, &statement(store))
 }
 
-fn count_texts(movements: &mut [MovementRow], texts: u32) {
-    if let Some(row) = movements.last_mut() {
+fn count_texts(store: &mut RowStore, texts: u32) {
+    if let Some(row) = store.movements.last_mut() {
         row.texts = texts;
     }
 }
 
-fn show_check<'a>(
-    rt: &HostRuntime,
-    accounts: &'a [AccountRow],
-    movements: &'a [MovementRow],
-    texts: &'a [TextRow],
-) -> anyhow::Result<()> {
-    let statement = Statement {
-        accounts,
-        movements,
-        texts,
-    };
-    let answer = check_tables(&statement).map_err(Notice::from);
+fn show_check(rt: &HostRuntime, statement: &Statement) -> anyhow::Result<()> {
+    let answer = check_tables(statement).map_err(Notice::from);
     println!(rt; "{}", Records(answer))?;
     Ok(())
 }

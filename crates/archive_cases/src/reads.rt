@@ -1,6 +1,6 @@
 use crate::answers::{show_carrier, show_read};
 use crate::rooms::{Room, Size};
-use crate::sample::{file, volume};
+use crate::sample::{file, put, volume};
 use media::Framing;
 use std::alloc::{AllocError, Global};
 
@@ -116,9 +116,7 @@ fn show_again(rt: &HostRuntime) -> anyhow::Result<()> {
     let mut tables = room.tables();
     for (length, byte) in AGAIN {
         let mut bytes = file(rt.alloc(), Framing::Blocks)?;
-        if let Some(changed) = bytes.get_mut(405) {
-            *changed = byte;
-        }
+        put(&mut bytes, 405, byte);
         bytes.truncate(length);
         show_read(rt, &mut volume(&bytes, Framing::Blocks), &mut tables)?;
         println!(rt; "")?;

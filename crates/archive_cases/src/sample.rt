@@ -28,6 +28,13 @@ pub fn file(heap: Global, framing: Framing) -> Result<Vec<u8>, AllocError> {
     Ok(bytes)
 }
 
+/// Puts a byte at a place, if there is one.
+pub fn put(bytes: &mut [u8], place: usize, byte: u8) {
+    if let Some(changed) = bytes.get_mut(place) {
+        *changed = byte;
+    }
+}
+
 /// A volume in page 850.
 pub fn volume(bytes: &[u8], framing: Framing) -> Volume<'_> {
     Volume::new(bytes, framing, CodeTable::from(CodePage::Page850))

@@ -39,6 +39,7 @@ impl From<ReadRefusal> for Notice {
                 volume: fault.volume,
             },
             ReadRefusal::Reading(refusal) => {
+                // As in recalling: no crate below both knows a refusal of a reading and a notice.
                 let told = Told::from(refusal);
                 Notice {
                     layer: Layer::Reading,

@@ -2,12 +2,9 @@
 #![tactic(auto)]
 
 use checking::check;
-use checking::checks::MOST_BYTES;
+use checking::checks::{MOST_BYTES, ROWS};
 use rows::RowStore;
 use std::io::Read;
-
-// How many rows each table has.
-const ROWS: usize = 800;
 
 fn main(rt: HostRuntime) -> anyhow::Result<()> {
     let heap = rt.alloc();

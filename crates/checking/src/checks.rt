@@ -9,6 +9,9 @@ use rows::{Layer, Notice, Tables};
 /// The most bytes that are checked.
 pub const MOST_BYTES: usize = 65_536;
 
+/// How many rows the programs give each table.
+pub const ROWS: usize = 800;
+
 /// Reads an input, lines in page 850, into tables, and tells what came of it. An input of too many bytes is not read.
 pub fn check(input: &[u8], tables: &mut Tables<'_>) -> Report
     ensures { Checked tables.old tables.new input.now result }

@@ -9,7 +9,7 @@ use fields::Key;
 use values::{AccountNumber, Turnover};
 
 /// The values of an account end, whose final key may be absent.
-#[derive(Clone, Copy)]
+#[derive(Clone, Copy, PartialEq, Eq, Debug)]
 pub struct AccountClose {
     pub number: AccountNumber,
     pub debits: Turnover,

@@ -14,7 +14,7 @@ use rows::Tables;
 use table::{Full, Table};
 
 /// What came of an audit: of the calls, of the two reads and of the write.
-#[derive(Clone, Copy)]
+#[derive(Clone, Copy, PartialEq, Eq, Debug)]
 pub struct Audited {
     pub ran: Result<(), Full>,
     pub first: Result<Counts, ReadRefusal>,

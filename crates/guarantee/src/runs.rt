@@ -6,7 +6,7 @@ use reading::{Reading, Refusal};
 use table::{Full, Table};
 
 /// A call on a reading.
-#[derive(Clone, Copy)]
+#[derive(Clone, Copy, PartialEq, Eq, Debug)]
 pub enum Call<'a> {
     /// Offers these bytes.
     Offer(&'a [u8]),

@@ -36,6 +36,7 @@ pub trait Carrier {
 
     /// Copies the first record left, 80 characters, into the caller's bytes, removes it and answers true. With none left it
     /// answers false at a clean end, and else its fault, and neither those bytes nor the carrier change.
+    // `ending` and `volumes` stand at whatever draws, since no invariant can speak of two moments.
     // A bool and no Option of a record: the rules have the record copied into the caller's bytes.
     fn draw(&mut self, into: &mut [u8; RECORD_LENGTH]) -> Result<bool, Fault>
         ensures drawn { Draws (records self.old) (ending self.old) into.old (records self.new) into.new result }

@@ -6,6 +6,7 @@ use charset::CodeTable;
 mod drawing;
 
 /// A carrier over the bytes of one volume, which it borrows and does not copy.
+// Framing and table stand beside one another, as in an image: the rules ask for a plain code table in this struct.
 #[derive(Drop)]
 pub struct Volume<'a> {
     bytes: &'a [u8],

@@ -83,7 +83,7 @@ pub fn show_copy<C: Carrier>(rt: &HostRuntime, carrier: &mut C) -> io::Result<()
     }
 }
 
-// In other words than recall tells an ending: the output of each program stays as it is.
+// recall prints an ending in other words; one function for both is no plainer.
 fn show_ending(rt: &HostRuntime, ending: Ending) -> io::Result<()> {
     match ending {
         Ok(()) => println!(rt; "clean"),

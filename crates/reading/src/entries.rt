@@ -2,7 +2,7 @@ use values::{AccountEnd, AccountHead, Equivalent, Movement};
 
 /// What a record that is taken says: its kind and numbers, with its name, texts or second reference as parts of the
 /// offered record.
-#[derive(Clone, Copy)]
+#[derive(Clone, Copy, PartialEq, Eq, Debug)]
 pub enum Entry<'a> {
     Account(AccountHead, &'a [u8]),
     Movement(Movement, &'a [u8]),

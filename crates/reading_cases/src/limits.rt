@@ -1,7 +1,7 @@
 use reading::Reading;
 use std::io;
 
-// The records of this program's own case; archive_cases has a file whose amounts differ.
+// Three of these stand in archive_cases too: a crate for three lines is no plainer.
 const HEAD: &[u8] =
     b"119999000100000000012603012603312000000000000009781PRUEBA                       ";
 
@@ -49,12 +49,11 @@ fn show_offers(
     offered: &[u8],
     times: u32,
 ) -> io::Result<()> {
-    let mut taken: u32 = 0;
+    let before = reading.taken();
     for _ in 0..times {
-        match reading.offer(offered) {
-            Ok(_) => taken = taken.saturating_add(1),
-            Err(refusal) => crate::show_refusal(rt, refusal)?,
+        if let Err(refusal) = reading.offer(offered) {
+            crate::show_refusal(rt, refusal)?;
         }
     }
-    println!(rt; "taken {taken}")
+    println!(rt; "taken {}", reading.taken().saturating_sub(before))
 }

@@ -47,6 +47,7 @@ fn name(entry: &Entry) -> &'static str {
     }
 }
 
+// recall prints a refusal in other words; one function for both is no plainer.
 fn show_refusal(rt: &HostRuntime, refusal: Refusal) -> io::Result<()> {
     let Told {
         number,

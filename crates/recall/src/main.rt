@@ -63,6 +63,7 @@ fn joined<'a>(disk: &'a [u8], tape: &'a [u8]) -> Joined<Volume<'a>, Volume<'a>> 
     }
 }
 
+// reading_cases prints a refusal, and media_cases a fault, in other words; one function for both is no plainer.
 fn tell_refusal(rt: &HostRuntime, refusal: Refusal) -> anyhow::Result<()> {
     let Told {
         number,

@@ -9,8 +9,8 @@ use composing::{AccountClose, Unfit, compose_account_end};
 use rows::{AccountRow, MovementRow};
 use values::OpenAccount;
 
-// An account after its own movements.
-fn turned_over(account: &AccountRow, own: &[MovementRow]) -> OpenAccount
+/// An account after its own movements. A count or a total that has no room for them stays at the largest.
+pub fn turned_over(account: &AccountRow, own: &[MovementRow]) -> OpenAccount
     ensures { result ≡ capped_account (turned_over account.now own.now) }
 {
     own.iter()

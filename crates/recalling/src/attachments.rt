@@ -9,7 +9,7 @@ mod composing_on;
 #[derive(Clone, Copy)]
 pub(crate) struct Attachments<'a> {
     texts: &'a [TextRow],
-    // A count beside the texts: an enumerated iterator counts in usize, wider than a sequence, and cannot be copied.
+    // A count beside the texts: an iterator that counts would have to be bounded by an invariant too, and is no plainer.
     came: u32,
     equivalent: Option<Equivalent>,
     ghost numbered: { came + length texts.now < 2 ^ 32 },

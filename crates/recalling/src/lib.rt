@@ -2,7 +2,7 @@
 // an output. Which records these are is said in specs/Statements.antt.
 #![tactic(auto)]
 
-pub(crate) mod account_ends;
+pub mod account_ends;
 pub(crate) mod attachments;
 pub mod checks;
 pub(crate) mod compositions;
@@ -11,6 +11,7 @@ pub(crate) mod fronts;
 pub mod refusals;
 pub mod writing;
 
+pub use account_ends::turned_over;
 pub use checks::check_tables;
 pub use refusals::{TableRefusal, WriteRefusal};
 pub use writing::write;

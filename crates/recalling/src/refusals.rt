@@ -54,6 +54,7 @@ impl From<TableRefusal> for Notice {
             TableRefusal::Texts => (Layer::Tables, 32, 0, 2),
             TableRefusal::Unfit(record, column) => (Layer::Tables, 33, record, column),
             TableRefusal::Refused(refusal) => {
+                // As in archiving: no crate below both knows a refusal of a reading and a notice.
                 let told = Told::from(refusal);
                 (Layer::Reading, told.number, told.record, told.column)
             }

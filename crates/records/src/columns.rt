@@ -71,7 +71,7 @@ pub(crate) fn ask<const MOST: usize>(
     }
 }
 
-// A number, in digits only.
+// A number, in digits only. Record and field stay two arguments: a struct of both would be made anew at each call.
 pub(crate) fn digits(offered: &[u8; 80], field: Number) -> Result<u64, FieldRefusal>
     ensures refusal { result_err result ≡ judged (digits_of field.from field.to) offered.now }
     ensures number { IfOk result (λ n. n ≡ number_at field.from field.to offered.now) }

@@ -23,7 +23,7 @@ pub struct FieldRefusal {
 
 impl Question {
     /// The number of a refusal at this question.
-    // A method: `u16::from(question)` would not say that a refusal has this number, and not the question.
+    // A method: `u16::from(question)` would not say which number.
     pub fn number(self) -> u16
         ensures { result ≡ question_number self }
     {

@@ -1,10 +1,12 @@
 use crate::wording::{Amount, Characters, Day, Many};
 use fields::Key;
+use recalling::turned_over;
 use rows::{AccountRow, MovementRow, Statement};
-use values::{AccountHead, OpenAccount, Turnover};
+use values::{AccountHead, Turnover};
 
 /// Tells each account of a statement.
 pub fn tell_accounts(rt: &HostRuntime, statement: &Statement) -> anyhow::Result<()> {
+    // The rest is carried from account to account: an iterator that does so is no plainer.
     let mut movements = statement.movements;
     for account in statement.accounts {
         let (own, rest) = movements.split_at(movements.len().min(account.movements as usize));
@@ -33,11 +35,7 @@ fn tell_account(rt: &HostRuntime, account: &AccountRow, own: &[MovementRow]) -> 
         Day(period.first),
         Day(period.last)
     )?;
-    let turned = own
-        .iter()
-        .fold(OpenAccount::new(account.head), |turned, row| {
-            turned.turned(row.movement.key, row.movement.amount)
-        });
+    let turned = turned_over(account, own);
     tell_amount(
         rt,
         "initial balance",

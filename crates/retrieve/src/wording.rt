@@ -1,3 +1,4 @@
+use charset::characters::ENYE;
 use fields::{Date, Key};
 use std::fmt;
 
@@ -21,7 +22,7 @@ impl<'a> fmt::Display for Characters<'a> {
     fn fmt<W: fmt::Write>(&self, f: &mut fmt::Formatter<W>) -> fmt::Result {
         for character in self.0.trim_ascii_end() {
             match *character {
-                165 => f.write_str("Ñ")?,
+                ENYE => f.write_str("Ñ")?,
                 other => f.write_char(char::from(other))?,
             }
         }
@@ -35,6 +36,7 @@ pub struct Day(pub Date);
 
 impl fmt::Display for Day {
     fn fmt<W: fmt::Write>(&self, f: &mut fmt::Formatter<W>) -> fmt::Result {
+        // Taken apart here: no library prints a date, and a year in full is no plainer there.
         let digits = self.0.digits;
         let century = if digits >= 820_000 { 19 } else { 20 };
         let year = digits / 10_000;

@@ -13,7 +13,7 @@ pub struct AccountRow {
 }
 
 /// What an account row can hold before it is filled.
-// A constant, which fills arrays; a Default would give names of zero bytes in place of spaces.
+// A constant, which fills arrays, as those of the other rows: a derived Default would put zeros in place of spaces.
 pub const UNUSED_ACCOUNT: AccountRow = AccountRow {
     head: NO_HEAD,
     name: [b' '; 26],

@@ -29,6 +29,7 @@ pub struct Notice {
     pub layer: Layer,
     /// A number and no enum: notices tell the refusals of every crate, and the faults of any carrier.
     pub number: u16,
+    // 0 here and below, and no Option, where there is none: the rules tell 0 there.
     pub record: u32,
     pub place: usize,
     pub volume: u16,

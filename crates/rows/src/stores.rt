@@ -21,6 +21,7 @@ pub struct RowStore {
 
 impl RowStore {
     /// So many unused rows of each kind.
+    // Three counts in a row: a struct for this one call is no plainer.
     pub fn new(
         heap: Global,
         accounts: usize,
@@ -39,6 +40,7 @@ impl RowStore {
     }
 
     /// Empty tables over these rows.
+    // No `lent`: a part of a `Vec` has no name that a caller could know it by again, and the tables tell what they hold.
     pub fn tables(&mut self) -> Tables<'_>
         ensures empty { rows_in result ≡ no_rows }
         ensures accounts { result.accounts.rows.now ≡ self.old.accounts.items }

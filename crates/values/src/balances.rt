@@ -42,6 +42,7 @@ impl OpenAccount {
     }
 
     /// This account after a movement. In the limits that is exact; past them a count or a total stays at the largest.
+    // A key and an amount, and no `Balance`: what a movement turns is none.
     pub fn turned(self, key: Key, amount: u64) -> OpenAccount
         ensures value { result ≡ turned_capped self key amount }
         ensures exact { counts_in_limit self key ≡ true → stays_in_limit self key amount ≡ true → result ≡ turned_by self key amount }

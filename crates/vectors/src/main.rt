@@ -2,17 +2,16 @@
 #![tactic(auto)]
 
 use checking::check;
+use checking::checks::ROWS;
 use rows::RowStore;
 use std::fs;
-
-// How many rows each table has, as in `check_statement`.
-const ROWS: usize = 800;
 
 fn main(rt: HostRuntime) -> anyhow::Result<()> {
     let heap = rt.alloc();
     let mut store = RowStore::new(heap, ROWS, ROWS, ROWS)?;
     let mut tables = store.tables();
     let expected = fs::read_to_string(&rt, "expected")?;
+    // Counted in the loop, which also prints those that are not.
     let mut equal = 0u64;
     for (number, line) in expected.lines().enumerate() {
         let path = format!(in heap; "{number:03}.c43")?;

@@ -18,6 +18,7 @@ fn encode_record(table: &CodeTable, offered: &[u8]) -> Option<[u8; RECORD_LENGTH
     Some(bytes)
 }
 
+// `lent` stands at each method that changes an image, since no invariant can speak of two moments.
 impl<'a> Image<'a> {
     /// An image of a volume, of lines as on disks or of blocks as on tapes, with nothing written yet.
     pub fn new(bytes: &'a mut [u8], framing: Framing, table: CodeTable) -> Image<'a>
