@@ -40,9 +40,8 @@ pub fn show(rt: &HostRuntime) -> anyhow::Result<()> {
     let file = longest(rt.alloc())?;
     let mut store = RowStore::new(rt.alloc(), 6, MOVEMENTS, 2)?;
     print!(rt; "a row too few: ")?;
-    let (few, _) = store
-        .movements
-        .split_at_mut(store.movements.len().saturating_sub(1));
+    let few = store.movements.len().saturating_sub(1);
+    let (few, _) = store.movements.split_at_mut(few);
     show_read(
         rt,
         &file,
@@ -53,7 +52,7 @@ pub fn show(rt: &HostRuntime) -> anyhow::Result<()> {
     store.accounts.truncate(5);
     store.texts.truncate(1);
     show_writes(rt, &file, &statement(&store))?;
-    show_accounts(rt, &statement(&store))?;
+    show_accounts(rt, &mut store)?;
     show_texts(rt, &mut store)
 }
 
@@ -114,35 +113,25 @@ fn show_write(rt: &HostRuntime, statement: &Statement, bytes: &mut [u8]) -> anyh
 }
 
 // The first account gets a debit of the second; and a sixth account comes behind the fifth.
-fn show_accounts(rt: &HostRuntime, statement: &Statement) -> anyhow::Result<()> {
-    let mut accounts = Vec::from_slice(rt.alloc(), statement.accounts)?;
-    if let [first, second, ..] = accounts.as_mut_slice() {
+fn show_accounts(rt: &HostRuntime, store: &mut RowStore) -> anyhow::Result<()> {
+    let accounts = store.accounts.clone()?;
+    if let [first, second, ..] = store.accounts.as_mut_slice() {
         first.movements = 199_999;
         second.movements = 199_997;
     }
     print!(rt; "a debit too many: ")?;
-    show_check(
-        rt,
-        &Statement {
-            accounts: &accounts,
-            ..*statement
-        },
-    )?;
-    let mut accounts = Vec::from_slice(rt.alloc(), statement.accounts)?;
-    if let Some(first) = statement.accounts.first() {
-        accounts.push(AccountRow {
+    show_check(rt, &statement(store))?;
+    store.accounts = accounts;
+    if let Some(first) = store.accounts.first().copied() {
+        store.accounts.push(AccountRow {
             movements: 0,
-            ..*first
+            ..first
         })?;
     }
     print!(rt; "an account too many: ")?;
-    show_check(
-        rt,
-        &Statement {
-            accounts: &accounts,
-            ..*statement
-        },
-    )
+    show_check(rt, &statement(store))?;
+    store.accounts.truncate(5);
+    Ok(())
 }
 
 // The last movement gets a second text, and then none.
