@@ -1,10 +1,9 @@
-use Rattle.std.proofs.Common.{◌≡◌, ◌+◌, Ok, Err, sym, refl, ap, ◌∙◌, subst, rules}
-use Rattle.std.proofs.lemmas.Result.{err_from_is_err_and}
+use Rattle.std.proofs.Common.{◌≡◌, ◌+◌, Ok, sym, refl, ap, ◌∙◌, subst, rules}
 use Rattle.reading.specs.Progress.{progress}
 use Rattle.reading.proofs.Progress.{new_at_start}
 use Rattle.rows.specs.Tables.{Holds}
 use Rattle.archiving.specs.declared.refusals.ReadRefusal.TheVariants.{Carrier}
-use Rattle.archiving.proofs.Midway.{holds_is, start, more, stopped, come_to, drew}
+use Rattle.archiving.proofs.Midway.{holds_is, start, more, drew}
 use Rattle.archiving.proofs.Taking.{still, told_as, told_by, told_ok}
 use Rattle.archiving.proofs.reads.read.Given.{Over}
 use Rattle.archiving.proofs.reads.read.Goals as goal
@@ -32,13 +31,3 @@ loop-reading-preserved g c =
     (more inv.0 c.take.new.tables (progress c.take.new.reading) c.draw.new.into (g.C.Carrier.records c.draw.new.self) left took.answer took.tables took.reading took.count, c.draw.ensures.ending ∙ inv.1, c.draw.ensures.volumes ∙ inv.2)
 
 -- stopped at a record
-pub returns-in_err-take : goal.returns-in_err-take
-returns-in_err-take g c =
-    let inv = c.loop-reading.invariant in
-    let record_there = drawn_ok g (goal.at.returns-in_err-take g c).In_ok-map_err ∙ ap Ok c.if-branch.true in
-    let left = drew _ _ _ _ _ _ record_there c.draw.ensures.drawn in
-    let r = err_from_is_err_and c.from_residual-in_err-take.result c.from_residual-in_err-take.ensures.1 in
-    let stop = c.in_err-take.ensures in
-    let s = stopped inv.0 c.take.new.tables c.draw.new.into (g.C.Carrier.records c.draw.new.self) c.in_err-take.field-0.0 left stop.answer stop.tables in
-    let o = come_to c.args.tables.now c.clear.new.self c.take.new.tables _ _ _ c.clear.ensures s.0 s.1 in
-    record { answer = r.1 ∙ (ap Err r.2 ∙ o.0); tables = o.1; left = o.2; ending = c.draw.ensures.ending ∙ inv.1; volumes = c.draw.ensures.volumes ∙ inv.2 }

@@ -5,7 +5,7 @@ use Rattle.std.proofs.lemmas.Result.{err_from_is_err_and}
 use Rattle.reading.specs.Progress.{progress}
 use Rattle.reading.specs.Taken.{refusal_of, closing}
 use Rattle.reading.proofs.Progress.{new_at_start}
-use Rattle.table.specs.Rows.{held, Fills}
+use Rattle.table.specs.Rows.{held}
 use Rattle.table.proofs.Filling.{standing}
 use Rattle.guarantee.specs.Runs.{Lawful}
 use Rattle.guarantee.proofs.Running.{Midway, started, made_more, offered, closed, ended, entered_more}
@@ -38,30 +38,20 @@ loop-call-preserved c =
           (rw (e.0, made_more c.args.calls.now i _ _ more w.in-Close.is, w.reading-is) (closed inv.0 x is), e.1, omega (arith, p.2, inv.2), c.in_ok-push.ensures.lent ∙ inv.3)
     ]
 
-pub returns : goal.returns
-returns c =
+pub returns-clause-ran : goal.returns-clause-ran
+returns-clause-ran c =
     let t = c.loop-call.answers in
     let inv = c.loop-call.invariant in
-    let given = c.clear.ensures.rows in
     let all = take_all c.loop-call.call-index c.args.calls.now c.loop-call-test.false in
-    let room : length t.rows.now ≡ length c.args.answers.now.rows.now = inv.1.size ∙ ap length given in
-    record {
-      ran = (omega (arith, t.fits, inv.2, c.loop-call-test.false, room), subst (λ l. Lawful [] l (held t.rows.now t.filled)) all (ended inv.0));
-      rows = subst (λ g. Fills g t.rows.now t.filled (held t.rows.now t.filled)) given inv.1;
-      lent = inv.3 ∙ c.clear.ensures.lent;
-    }
+    let room : length t.rows.now ≡ length c.args.answers.now.rows.now = inv.1.size ∙ ap length c.clear.ensures.rows in
+    (omega (arith, t.fits, inv.2, c.loop-call-test.false, room), subst (λ l. Lawful [] l (held t.rows.now t.filled)) all (ended inv.0))
 
-pub returns-in_err-push : goal.returns-in_err-push
-returns-in_err-push c =
-    let t = c.loop-call.answers in
+pub returns-in_err-push-clause-ran : goal.returns-in_err-push-clause-ran
+returns-in_err-push-clause-ran c =
     let inv = c.loop-call.invariant in
-    let given = c.clear.ensures.rows in
+    let t = c.loop-call.answers in
     let r = err_from_is_err_and c.from_residual.result c.from_residual.ensures.1 in
     let p = c.in_err-push.ensures.pushed in
-    let room : length c.args.answers.now.rows.now ≡ c.loop-call.call-index = omega (arith, inv.1.size, ap length given, p.0, inv.2) in
+    let room : length c.args.answers.now.rows.now ≡ c.loop-call.call-index = omega (arith, inv.1.size, ap length c.clear.ensures.rows, p.0, inv.2) in
     let few : length c.args.answers.now.rows.now < length c.args.calls.now = omega (arith, room, c.loop-call-test.true) in
-    record {
-      ran = rw (r.1, p.1, p.2) (few, subst (λ n. Lawful [] (take n c.args.calls.now) (held t.rows.now t.filled)) (sym room) (ended inv.0));
-      rows = rw (p.1, p.2) (subst (λ g. Fills g t.rows.now t.filled (held t.rows.now t.filled)) given inv.1);
-      lent = c.in_err-push.ensures.lent ∙ (inv.3 ∙ c.clear.ensures.lent);
-    }
+    rw (r.1, p.1, p.2) (few, subst (λ n. Lawful [] (take n c.args.calls.now) (held t.rows.now t.filled)) (sym room) (ended inv.0))
