@@ -29,5 +29,3 @@ loop-reading-preserved g c =
     let left = drew _ _ _ _ _ _ record_there c.draw.ensures.drawn in
     let took = c.in_ok-take.ensures in
     (more inv.0 c.take.new.tables (progress c.take.new.reading) c.draw.new.into (g.C.Carrier.records c.draw.new.self) left took.answer took.tables took.reading took.count, c.draw.ensures.ending ∙ inv.1, c.draw.ensures.volumes ∙ inv.2)
-
--- stopped at a record
