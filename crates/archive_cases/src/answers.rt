@@ -64,7 +64,7 @@ impl fmt::Display for Numbers {
 pub fn show_read<C: Carrier>(
     rt: &HostRuntime,
     carrier: &mut C,
-    tables: &mut Tables<'_>,
+    tables: &mut Tables,
 ) -> anyhow::Result<()> {
     let answer = ReadAnswer(read(carrier, tables));
     let accounts = tables.accounts.len();

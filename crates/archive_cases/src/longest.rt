@@ -90,7 +90,7 @@ fn add(file: &mut Vec<u8>, record: &[u8], times: u32) -> Result<(), AllocError> 
     Ok(())
 }
 
-fn show_read(rt: &HostRuntime, file: &[u8], tables: &mut Tables<'_>) -> anyhow::Result<()> {
+fn show_read(rt: &HostRuntime, file: &[u8], tables: &mut Tables) -> anyhow::Result<()> {
     let answer = read(&mut volume(file, Framing::Blocks), tables);
     println!(rt; "{}", ReadAnswer(answer))?;
     Ok(())

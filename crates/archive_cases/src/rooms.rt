@@ -46,7 +46,7 @@ impl Room {
     }
 
     /// Empty tables over these rows.
-    pub fn tables(&mut self) -> Tables<'_> {
+    pub fn tables(&mut self) -> Tables<'_, '_, '_> {
         self.rows.tables()
     }
 

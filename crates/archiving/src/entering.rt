@@ -72,7 +72,7 @@ fn revise_last<T: Copy, F: FnOnce(&mut T)>(table: &mut Table<'_, T>, change: F)
 }
 
 /// Enters what a reading tells of a record, or tells which table has no free row for it.
-pub(crate) fn enter(tables: &mut Tables<'_>, entry: &Entry<'_>) -> Result<(), TableKind>
+pub(crate) fn enter(tables: &mut Tables, entry: &Entry<'_>) -> Result<(), TableKind>
     requires whole { Whole entry.now }
     requires movements { movements_of (rows_in tables.old).accounts < 4294967295 }
     requires texts { texts_of (rows_in tables.old).movements < 4294967295 }

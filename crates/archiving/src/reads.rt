@@ -21,11 +21,7 @@ pub struct Counts {
 }
 
 // Offers a record to the reading, and enters it.
-fn take(
-    reading: &mut Reading,
-    tables: &mut Tables<'_>,
-    offered: &[u8; 80],
-) -> Result<(), ReadRefusal>
+fn take(reading: &mut Reading, tables: &mut Tables, offered: &[u8; 80]) -> Result<(), ReadRefusal>
     requires movements { movements_of (rows_in tables.old).accounts ≤ (progress reading.old).taken }
     requires texts { texts_of (rows_in tables.old).movements ≤ (progress reading.old).taken }
     ensures answer { result_err result ≡ stopping (room_in tables.old) (progress reading.old) (rows_in tables.old) offered.now }
@@ -40,7 +36,7 @@ fn take(
 
 /// Reads the records left on a carrier into tables, which it empties first. It stops at the first record that the reading
 /// refuses or that no free row is left for, and otherwise at the carrier's end; nothing is drawn after that.
-pub fn read<C: Carrier>(carrier: &mut C, tables: &mut Tables<'_>) -> Result<Counts, ReadRefusal>
+pub fn read<C: Carrier>(carrier: &mut C, tables: &mut Tables) -> Result<Counts, ReadRefusal>
     ensures answer { result ≡ (read_of (room_in tables.old) (C.Carrier.records carrier.old) (C.Carrier.ending carrier.old)).answer }
     ensures tables { Holds tables.old tables.new (read_of (room_in tables.old) (C.Carrier.records carrier.old) (C.Carrier.ending carrier.old)).rows }
     ensures left { C.Carrier.records carrier.new ≡ (read_of (room_in tables.old) (C.Carrier.records carrier.old) (C.Carrier.ending carrier.old)).left }

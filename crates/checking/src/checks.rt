@@ -13,7 +13,7 @@ pub const MOST_BYTES: usize = 65_536;
 pub const ROWS: usize = 800;
 
 /// Reads an input, lines in page 850, into tables, and tells what came of it. An input of too many bytes is not read.
-pub fn check(input: &[u8], tables: &mut Tables<'_>) -> Report
+pub fn check(input: &[u8], tables: &mut Tables) -> Report
     ensures { Checked tables.old tables.new input.now result }
 {
     if input.len() > MOST_BYTES {

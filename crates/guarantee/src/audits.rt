@@ -28,9 +28,9 @@ pub fn audit<C: Carrier, D: Carrier, O: Output>(
     calls: &[Call<'_>],
     answers: &mut Table<'_, Option<Refusal>>,
     first: &mut C,
-    tables: &mut Tables<'_>,
+    tables: &mut Tables,
     second: &mut D,
-    more_tables: &mut Tables<'_>,
+    more_tables: &mut Tables,
     output: &mut O,
 ) -> Audited
     ensures promises { Promises calls.now (length answers.old.rows.now) (held answers.new.rows.now answers.new.filled) (room_in tables.old) (room_in more_tables.old) (C.Carrier.records first.old) (D.Carrier.records second.old) (C.Carrier.ending first.old) (D.Carrier.ending second.old) (C.Carrier.records first.new) (D.Carrier.records second.new) (rows_in tables.new) (rows_in more_tables.new) (O.Output.put output.old) (O.Output.places output.old) (O.Output.put output.new) result }

@@ -14,7 +14,7 @@ use rows::{Statement, Tables};
 
 /// Reads the records left on a carrier into tables. With a row for each record it succeeds exactly on a correct file with a
 /// clean end, and otherwise names the first thing wrong; what it leaves in the tables is what the file is kept in.
-pub fn read<C: Carrier>(carrier: &mut C, tables: &mut Tables<'_>) -> Result<Counts, ReadRefusal>
+pub fn read<C: Carrier>(carrier: &mut C, tables: &mut Tables) -> Result<Counts, ReadRefusal>
     ensures answer { result ≡ (read_of (room_in tables.old) (C.Carrier.records carrier.old) (C.Carrier.ending carrier.old)).answer }
     ensures tables { Holds tables.old tables.new (read_of (room_in tables.old) (C.Carrier.records carrier.old) (C.Carrier.ending carrier.old)).rows }
     ensures left { C.Carrier.records carrier.new ≡ (read_of (room_in tables.old) (C.Carrier.records carrier.old) (C.Carrier.ending carrier.old)).left }

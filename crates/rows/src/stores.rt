@@ -41,7 +41,7 @@ impl RowStore {
 
     /// Empty tables over these rows.
     // No `lent`: a part of a `Vec` has no name that a caller could know it by again, and the tables tell what they hold.
-    pub fn tables(&mut self) -> Tables<'_>
+    pub fn tables(&mut self) -> Tables<'_, '_, '_>
         ensures empty { rows_in result ≡ no_rows }
         ensures accounts { result.accounts.rows.now ≡ self.old.accounts.items }
         ensures movements { result.movements.rows.now ≡ self.old.movements.items }
