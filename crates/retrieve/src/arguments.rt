@@ -1,6 +1,6 @@
 use crate::holdings::VolumeFile;
 use crate::ways::Way;
-use anyhow::{Context, bail};
+use anyhow::bail;
 use std::env;
 
 /// The volumes that the arguments name, in order: before each file a word says how it is to be read.
@@ -12,9 +12,10 @@ pub fn named_volumes(rt: &HostRuntime) -> anyhow::Result<Vec<VolumeFile>> {
             Some(way) => volumes.push(VolumeFile::load(rt, way, word.as_str())?)?,
             None => {
                 let named = word.as_str().parse::<Way>();
-                way = Some(named.context(format_args!(
-                    "no way to read a volume is named '{word}'"
-                ))?);
+                if named.is_err() {
+                    eprintln!(rt; "no way to read a volume is named '{word}'")?;
+                }
+                way = Some(named?);
             }
         }
     }

@@ -6,9 +6,14 @@ use reading::Refusal;
 use rows::RowStore;
 use table::Table;
 
-/// Audits two copies of a statement: its records are offered to a reading, which is then closed; both copies are read; and
-/// the first is written once more.
-pub fn audit_copies(rt: &HostRuntime, disk: &VolumeFile, tape: &VolumeFile) -> anyhow::Result<()> {
+/// Audits two copies of a statement of so many records: they are offered to a reading, which is then closed; both copies
+/// are read; and the first is written once more.
+pub fn audit_copies(
+    rt: &HostRuntime,
+    disk: &VolumeFile,
+    tape: &VolumeFile,
+    records: u32,
+) -> anyhow::Result<()> {
     let heap = rt.alloc();
     let lines = disk.bytes.as_slice().chunks(disk.way.framing.stride());
     let mut calls = lines
@@ -21,7 +26,7 @@ pub fn audit_copies(rt: &HostRuntime, disk: &VolumeFile, tape: &VolumeFile) -> a
     let most = calls.len();
     let mut first = RowStore::new(heap, most, most, most)?;
     let mut second = RowStore::new(heap, most, most, most)?;
-    let mut bytes = vec![in heap; 0; disk.bytes.len()]?;
+    let mut bytes = vec![in heap; 0; disk.way.length(records)]?;
     let audited = audit(
         calls.as_slice(),
         &mut answers,

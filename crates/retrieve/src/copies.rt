@@ -21,7 +21,7 @@ impl<'a> Counted<'a> {
     pub fn make_copies(&self, rt: &HostRuntime) -> anyhow::Result<()> {
         let disk = self.make_copy(rt, Way::DISK, "recalled.disk")?;
         let tape = self.make_copy(rt, Way::TAPE, "recalled.tape")?;
-        audit_copies(rt, &disk, &tape)
+        audit_copies(rt, &disk, &tape, self.records)
     }
 
     fn make_copy(&self, rt: &HostRuntime, way: Way, name: &str) -> anyhow::Result<VolumeFile> {

@@ -1,6 +1,6 @@
 use crate::ways::Way;
 use crate::wording::Many;
-use anyhow::{Context, bail};
+use anyhow::bail;
 use archiving::{Counts, ReadRefusal};
 use guarantee::read;
 use media::framing::RECORD_LENGTH;
@@ -19,7 +19,12 @@ pub struct VolumeFile {
 impl VolumeFile {
     /// The volume in the file of this name.
     pub fn load(rt: &HostRuntime, way: Way, name: &str) -> anyhow::Result<VolumeFile> {
-        let bytes = fs::read(rt, name).context(format_args!("the volume '{name}' cannot be read"))?;
+        let bytes = fs::read(rt, name);
+        // A line of its own, however long the name is: an error keeps 120 bytes of what it says.
+        if bytes.is_err() {
+            eprintln!(rt; "the volume '{name}' cannot be read")?;
+        }
+        let bytes = bytes?;
         let name = String::from_str(rt.alloc(), name)?;
         Ok(VolumeFile { name, way, bytes })
     }
@@ -52,7 +57,7 @@ pub fn tell_volumes(rt: &HostRuntime, volumes: &[VolumeFile]) -> anyhow::Result<
 /// Reads one to four volumes as one holding. Joined carriers of other numbers have other types.
 pub fn read_holding(
     volumes: &[VolumeFile],
-    tables: &mut Tables<'_>,
+    tables: &mut Tables,
 ) -> anyhow::Result<Result<Counts, ReadRefusal>> {
     match volumes {
         [a] => Ok(read(&mut a.carrier(), tables)),

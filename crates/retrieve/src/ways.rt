@@ -1,4 +1,4 @@
-use anyhow::Context;
+use anyhow::anyhow;
 use charset::{CodePage, CodeTable};
 use media::{Framing, Image, Volume};
 use std::fmt;
@@ -15,7 +15,9 @@ impl FromStr for Way {
     type Err = anyhow::Error;
 
     fn from_str(word: &str) -> anyhow::Result<Way> {
-        named(word).context("before each file say lines-850, lines-284, blocks-850 or blocks-284")
+        named(word).ok_or_else(|| {
+            anyhow!("before each file say lines-850, lines-284, blocks-850 or blocks-284")
+        })
     }
 }
 
