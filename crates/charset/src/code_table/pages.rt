@@ -23,14 +23,23 @@ pub enum CodePage {
     Page284,
 }
 
+impl CodePage {
+    // The byte of each character.
+    fn bytes(self) -> [u8; CHARACTER_COUNT]
+        ensures { result ≡ page_bytes self }
+    {
+        match self {
+            CodePage::Page850 => CHARACTERS,
+            CodePage::Page284 => EBCDIC_284,
+        }
+    }
+}
+
 /// The code table of a page.
 impl From<CodePage> for CodeTable {
     ghost from_gives = { λ page table. bytes_of table ≡ page_bytes page };
 
     fn from(page: CodePage) -> CodeTable {
-        match page {
-            CodePage::Page850 => CodeTable::try_from(CHARACTERS).unwrap(),
-            CodePage::Page284 => CodeTable::try_from(EBCDIC_284).unwrap(),
-        }
+        CodeTable::try_from(page.bytes()).unwrap()
     }
 }
