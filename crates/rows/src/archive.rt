@@ -8,7 +8,8 @@ use crate::tables::Statement;
 use crate::texts::TextRow;
 use table::Table;
 
-/// The three tables of the archive, over rows that the caller lends, each for as long as it likes.
+/// The three tables of the archive, over rows that the caller lends. Each has a lifetime of its own, so that tables which
+/// were lent can be lent on and put back.
 #[derive(Drop)]
 pub struct Tables<'a, 'm, 't> {
     pub accounts: Table<'a, AccountRow>,
